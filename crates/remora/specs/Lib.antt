@@ -1,0 +1,12 @@
+pub mod Shapes
+pub mod Algebras
+pub mod Formulas
+pub mod Typing
+pub mod Questions
+pub mod Evaluation
+pub mod Forecasts
+pub mod Numbers
+pub mod Machine
+pub mod Calls
+pub mod Histories
+pub mod Theorems
