@@ -20,7 +20,7 @@ use Rattle.remora.specs.Forecasts.{entryOf, withinLimits}
 use Rattle.remora.specs.Numbers.{pick, linesOf, noEntry, known, anyNumber, AllTyped}
 use Rattle.remora.specs.Machine.{Plan, plans, choose, Progress, more, done, faulted, idle, Snapshot, at, step}
 use Rattle.remora.specs.Calls.{Draft, shut, opened, added, slipFits, draftFormula, draftParameters, draftLines, none, Kept, keptAs, marked, noFormula, Run, absent, going, finished, broken, State, empty, entryAt, planAt, usableAt, withDraft, withRun, withFormula, inUse, Call, open′, line, enter, scrap, withdraw, entry, begin, step′, result, close, Answer, refused, number, ok, states, goes-on, is-done, fault, wrote, Reply, reply, asked, refusal, openQuestions, opensDraft, lineQuestions, addsLine, scrapQuestions, dropsDraft, withdrawQuestions, marksFormula, entryQuestions, tellsEntry, storeFits, beginQuestions, beginsRun, resultQuestions, writesResult, closeQuestions, endsRun, progressed, serveVerdict, serveEnter, serveStep, serveResult, serve}
-use Rattle.remora.specs.Histories.{Event, event, Leads, Reading, unread, drafted, readOpen, readLine, readRefused, readEnter, readOk, readCall, readFrom, reading, member}
+use Rattle.remora.specs.Histories.{Event, event, Leads, Reading, unread, drafted, byAnswer, readOpen, readLine, readRefused, readEnter, readOk, readCall, readFrom, reading, member}
 use Rattle.remora.proofs.Checking.{judge-types, types-judge}
 use Rattle.remora.proofs.Sizes.{known-here, known-below, known-later}
 use Rattle.remora.proofs.Running.{planned, planned-here, planned-below}
@@ -84,48 +84,30 @@ pick-later : (fs : List Formula) (b : Bool) (r s : Reading) → Later fs (r .for
 pick-later fs true r s h k = h
 pick-later fs false r s h k = k
 
+by-answer : {Z : Type 0} (P : Z → Type 0) (a : Answer) (f : ℕ → Option ℕ → Z) (g : ℕ → Z) (x y : Z) → ((n : ℕ) (l : Option ℕ) → P (f n l)) → ((k : ℕ) → P (g k)) → P x → P y → P (byAnswer a f g x y)
+by-answer P (refused n l) f g x y p q u v = p n l
+by-answer P (number k) f g x y p q u v = q k
+by-answer P ok f g x y p q u v = u
+by-answer P (states e w) f g x y p q u v = v
+by-answer P goes-on f g x y p q u v = v
+by-answer P is-done f g x y p q u v = v
+by-answer P (fault e h l c) f g x y p q u v = v
+by-answer P (wrote cs) f g x y p q u v = v
+
+refused-later : (r : Reading) (n : ℕ) (l : Option ℕ) → Later (r .formulas) (readRefused r n l .formulas)
+refused-later r n None = pick-later (r .formulas) (eqb n 3) r (drafted r shut) (later-refl _) (later-refl _)
+refused-later r n (Some l) = later-refl _
+
 pub read-later : (r : Reading) (c : Call) (a : Answer) → Later (r .formulas) (readCall r c a .formulas)
-read-later r (open′ ps) (refused n l) = later-refl _
-read-later r (open′ ps) (number k) = later-refl _
-read-later r (open′ ps) ok = later-refl _
-read-later r (open′ ps) (states e w) = later-refl _
-read-later r (open′ ps) goes-on = later-refl _
-read-later r (open′ ps) is-done = later-refl _
-read-later r (open′ ps) (fault e g l c) = later-refl _
-read-later r (open′ ps) (wrote cs) = later-refl _
-read-later r (line k x) (refused n l) = later-refl _
-read-later r (line k x) (number i) = later-refl _
-read-later r (line k x) ok = later-refl _
-read-later r (line k x) (states e w) = later-refl _
-read-later r (line k x) goes-on = later-refl _
-read-later r (line k x) is-done = later-refl _
-read-later r (line k x) (fault e g l c) = later-refl _
-read-later r (line k x) (wrote cs) = later-refl _
-read-later r (enter k) (refused n None) = pick-later (r .formulas) (eqb n 3) r (drafted r shut) (later-refl _) (later-refl _)
-read-later r (enter k) (refused n (Some l)) = later-refl _
-read-later r (enter k) (number i) = (draftFormula (r .draft) ∷ [], refl)
-read-later r (enter k) ok = later-refl _
-read-later r (enter k) (states e w) = later-refl _
-read-later r (enter k) goes-on = later-refl _
-read-later r (enter k) is-done = later-refl _
-read-later r (enter k) (fault e g l c) = later-refl _
-read-later r (enter k) (wrote cs) = later-refl _
-read-later r (scrap k) (refused n l) = later-refl _
-read-later r (scrap k) (number i) = later-refl _
-read-later r (scrap k) ok = later-refl _
-read-later r (scrap k) (states e w) = later-refl _
-read-later r (scrap k) goes-on = later-refl _
-read-later r (scrap k) is-done = later-refl _
-read-later r (scrap k) (fault e g l c) = later-refl _
-read-later r (scrap k) (wrote cs) = later-refl _
-read-later r (withdraw k) (refused n l) = later-refl _
-read-later r (withdraw k) (number i) = later-refl _
-read-later r (withdraw k) ok = later-refl _
-read-later r (withdraw k) (states e w) = later-refl _
-read-later r (withdraw k) goes-on = later-refl _
-read-later r (withdraw k) is-done = later-refl _
-read-later r (withdraw k) (fault e g l c) = later-refl _
-read-later r (withdraw k) (wrote cs) = later-refl _
+read-later r (open′ ps) a = by-answer (λ (x : Reading). Later (r .formulas) (x .formulas)) a (λ n l. r) (λ k. drafted r (opened k ps [])) r r (λ n l. later-refl _) (λ k. later-refl _) (later-refl _) (later-refl _)
+read-later r (line k x) a = by-answer (λ (y : Reading). Later (r .formulas) (y .formulas)) a (λ n l. r) (λ k. drafted r (added (r .draft) x)) r r (λ n l. later-refl _) (λ k. later-refl _) (later-refl _) (later-refl _)
+read-later r (enter k) a =
+    by-answer (λ (x : Reading). Later (r .formulas) (x .formulas)) a (readRefused r) (λ i. record { draft = shut; formulas = draftFormula (r .draft) ∷ r .formulas; withdrawn = r .withdrawn }) r r
+    (refused-later r) (λ i. (draftFormula (r .draft) ∷ [], refl)) (later-refl _) (later-refl _)
+read-later r (scrap k) a = by-answer (λ (x : Reading). Later (r .formulas) (x .formulas)) a (λ n l. r) (λ i. r) (drafted r shut) r (λ n l. later-refl _) (λ i. later-refl _) (later-refl _) (later-refl _)
+read-later r (withdraw k) a =
+    by-answer (λ (x : Reading). Later (r .formulas) (x .formulas)) a (λ n l. r) (λ i. r) (record { draft = r .draft; formulas = r .formulas; withdrawn = k ∷ r .withdrawn }) r
+    (λ n l. later-refl _) (λ i. later-refl _) (later-refl _) (later-refl _)
 read-later r (entry g) a = later-refl _
 read-later r (begin g cs) a = later-refl _
 read-later r step′ a = later-refl _

@@ -21,7 +21,7 @@ use Rattle.remora.proofs.Regions.{Same, put-same}
 use Rattle.remora.proofs.Running.{storeOf, activationsOf, Plans, Runs, stay, move, Fails, Finishes, goods-all}
 use Rattle.remora.proofs.Sizes.{typed-sounds}
 use Rattle.remora.proofs.Agreeing.{asked-cases, Later, later-refl, later-trans, read-later, Agrees, agrees-empty, event-agrees}
-use Rattle.remora.proofs.Following.{Ok, plans-ok, entry-same, begin-ends, Ending, step-reply, still-open, still-line, still-enter, still-scrap, still-withdraw, still-entry, length-samples, snapshot-is}
+use Rattle.remora.proofs.Following.{Ok, plans-ok, entry-same, begin-ends, Ending, step-reply, About, steps, begins, results, closes, others, about, length-samples, snapshot-is}
 
 module _ (m : Meaning) (formed : Formed m) where
   -- the step that ends a run answers done, or a fault that writes only within reach
@@ -186,17 +186,15 @@ module _ (m : Meaning) (formed : Formed m) where
       asked-cases (Owed r (result k) S) (resultQuestions s S g k) (writesResult s S g q) (refusal s S) (λ y. (f, untouched-same S (writesResult s S g q) refl)) (λ n. (f, untouched-same S (refusal s S n) refl))
   owed-result r s S k (broken g) f = (f, untouched-same S (refusal s S 20) refl)
 
+  owed-about : (r : Reading) (s : State) (S : List Sample) (c : Call) → About c → Agrees m r s → RunFine r S (s .run) → Owed r c S (serve m s S c)
+  owed-about r s S c steps a f = owed-step r s S (s .run) refl a f
+  owed-about r s S c (begins g cs) a f = owed-begin r s S g cs a f
+  owed-about r s S c (results k) a f = owed-result r s S k (s .run) f
+  owed-about r s S c closes a f = asked-cases (Owed r close S) (closeQuestions s) (endsRun s S) (refusal s S) (λ y. (tt, untouched-same S (endsRun s S) refl)) (λ n. (f, untouched-same S (refusal s S n) refl))
+  owed-about r s S c (others still away) a f = owed-still r s S c (still m s S) f
+
   owed : (r : Reading) (s : State) (S : List Sample) (c : Call) → Agrees m r s → RunFine r S (s .run) → Owed r c S (serve m s S c)
-  owed r s S (open′ ps) a f = owed-still r s S (open′ ps) (still-open m s S ps) f
-  owed r s S (line k x) a f = owed-still r s S (line k x) (still-line m s S k x) f
-  owed r s S (enter k) a f = owed-still r s S (enter k) (still-enter m s S k) f
-  owed r s S (scrap k) a f = owed-still r s S (scrap k) (still-scrap m s S k) f
-  owed r s S (withdraw g) a f = owed-still r s S (withdraw g) (still-withdraw m s S g) f
-  owed r s S (entry g) a f = owed-still r s S (entry g) (still-entry m s S g) f
-  owed r s S (begin g cs) a f = owed-begin r s S g cs a f
-  owed r s S step′ a f = owed-step r s S (s .run) refl a f
-  owed r s S (result k) a f = owed-result r s S k (s .run) f
-  owed r s S close a f = asked-cases (Owed r close S) (closeQuestions s) (endsRun s S) (refusal s S) (λ y. (tt, untouched-same S (endsRun s S) refl)) (λ n. (f, untouched-same S (refusal s S n) refl))
+  owed r s S c a f = owed-about r s S c (about c) a f
 
   leads-fine : (h : List Event) (r : Reading) (s t : State) (S T : List Sample) → Leads m s S h t T → Agrees m r s → RunFine r S (s .run) → Agrees m (readFrom r h) t × RunFine (readFrom r h) T (t .run)
   leads-fine [] r s t S T l a f = (subst (Agrees m r) (l .0) a, subst (λ (U : List Sample). RunFine r U (t .run)) (l .1) (subst (λ (v : State). RunFine r S (v .run)) (l .0) f))

@@ -15,7 +15,7 @@ use Rattle.std.proofs.shelf.Lists.{getD-append-left, getD-append-right}
 use Rattle.std.proofs.shelf.Tests.{lt-ltb, le-ltb, both-ways}
 use Rattle.remora.specs.Shapes.{Shape, size}
 use Rattle.remora.specs.Algebras.{Sample, sampleOf, Meaning}
-use Rattle.remora.specs.Formulas.{ArrayType, shaped, noType, Kind, a-literal, a-parameter, a-frame, an-operator, a-call, a-fold, an-append, a-reverse, no-kind, Entry, Function, primitive, formula, fold, append, reversal, scalars, cells, TypedLine, literal, parameter, frame, application, typeOf, lastOr}
+use Rattle.remora.specs.Formulas.{ArrayType, shaped, noType, Kind, a-literal, a-parameter, a-frame, an-operator, a-call, a-fold, an-append, a-reverse, no-kind, Entry, Function, primitive, formula, fold, append, reversal, scalars, cells, TypedLine, literal, parameter, frame, application, typeOf, typesOf, lastOr}
 use Rattle.remora.specs.Typing.{Alike, no-operand, operand}
 use Rattle.remora.specs.Questions.{typeAt}
 use Rattle.remora.specs.Evaluation.{split, concat, Array, arrayOf, noArray, itemsAt, Fault, Outcome, yields, Cells, all, upto, Attempt, value, andThen, Operations, repeats, cellsAt, firsts, folded, told, applyCell, collapse, mapCells, joined, evalLine}
@@ -26,10 +26,6 @@ use Rattle.remora.proofs.Sizes.{Lifts, none, one, FunctionFits, Sound, s-liter
 use Rattle.remora.proofs.Regions.{Region, region, noRegion, long, read, reads, regions, regionTypes, Below, below-at, types-at, types-length, reads-at, reads-length, regions-place, regionOf, layout, behind, region-type, layout-append, layout-length, behind-add, sourceOf, sourcesOf, cell-below, cells-read}
 
 -- ---- plans
-
-abbrev pub typesOf : List TypedLine → List ArrayType
-typesOf [] = []
-typesOf (r ∷ rs) = typeOf r ∷ typesOf rs
 
 module _ (m : Meaning) (E : ℕ → Entry) where
   pub plans-length : (types : List ArrayType) (q : ℕ) (rs : List TypedLine) → length (plans m E types q rs) ≡ length rs

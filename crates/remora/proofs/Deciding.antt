@@ -11,7 +11,7 @@ use Rattle.std.specs.declared.option.Option.{Option}
 use Rattle.std.specs.declared.option.Option.the-variants.{Some, None}
 use Rattle.remora.specs.Shapes.{size}
 use Rattle.remora.specs.Algebras.{Sample, Meaning, Formed}
-use Rattle.remora.specs.Formulas.{ArrayType, Line, Formula, Entry, TypedLine, typeOf}
+use Rattle.remora.specs.Formulas.{ArrayType, Line, Formula, Entry, TypedLine, typeOf, typesOf}
 use Rattle.remora.specs.Typing.{TypesAll, no-lines, and-line}
 use Rattle.remora.specs.Questions.{firstNo, typed, questions, Verdict, all-typed, refused-at, before, unless, judge}
 use Rattle.remora.specs.Evaluation.{Array, Outcome, yields, faults, onCodes}
@@ -19,7 +19,7 @@ use Rattle.remora.specs.Numbers.{known, eval, arguments, outcome}
 use Rattle.remora.specs.Machine.{onSamples}
 use Rattle.remora.specs.Calls.{State, Call, serve}
 use Rattle.remora.specs.Histories.{Event, event, Leads}
-use Rattle.remora.specs.Theorems.{PrincipalFrameIsJoin, QuestionsDecideTyping, typesOf, RefusedAt, Says, VerdictDecidesTyping, OfType, TypedFormulasAreSound, HistoriesGoOn}
+use Rattle.remora.specs.Theorems.{PrincipalFrameIsJoin, QuestionsDecideTyping, RefusedAt, Says, VerdictDecidesTyping, OfType, TypedFormulasAreSound, HistoriesGoOn}
 use Rattle.remora.proofs.Prefixes.{principal-join, join-principal}
 use Rattle.remora.proofs.Checking.{firstNo-none, questions-type, type-questions, types-judge}
 use Rattle.remora.proofs.Sizes.{Fit, LengthO, typed-sounds, keeps-all}

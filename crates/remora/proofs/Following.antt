@@ -21,7 +21,7 @@ use Rattle.remora.specs.Evaluation.{Array, arrayOf, Fault, Outcome, yields, fa
 use Rattle.remora.specs.Numbers.{pick, known, eval, arguments, outcome, AllTyped}
 use Rattle.remora.specs.Machine.{part, put, Activation, onSamples, Snapshot, at, Progress, more, done, faulted, idle, choose, step}
 use Rattle.remora.specs.Calls.{Draft, slipFits, draftFormula, draftParameters, draftLines, none, Run, absent, going, finished, broken, State, entryAt, planAt, usableAt, withRun, Call, open′, line, enter, scrap, withdraw, entry, begin, step′, result, close, Answer, refused, number, ok, goes-on, is-done, fault, wrote, Reply, reply, asked, refusal, openQuestions, opensDraft, lineQuestions, addsLine, scrapQuestions, dropsDraft, withdrawQuestions, marksFormula, entryQuestions, tellsEntry, parameterAtoms, codesFit, samplesFor, needs, firstActivation, noRun, storeFits, beginQuestions, beginsRun, resultQuestions, writesResult, closeQuestions, endsRun, progressed, serveVerdict, serveStep, serveResult, serve}
-use Rattle.remora.specs.Histories.{Event, event, Leads, Reading, readCall, Goes, Yields, Faulted, Caused}
+use Rattle.remora.specs.Histories.{Event, event, Leads, Reading, readCall, Turn, elsewhere, turn, turns, Goes, Yields, Faulted, Caused}
 use Rattle.remora.proofs.Checking.{in-set}
 use Rattle.remora.proofs.Sizes.{Fit, LengthO, Sounds, typed-sounds, keeps-all, known-later}
 use Rattle.remora.proofs.Simulation.{Right, mapArray, mapArrays, onFault, own-caused, SimO, Sims, sims-all}
@@ -68,33 +68,33 @@ planned-later m fs (f ∷ newer) g l = planned-below m f (newer ++ fs) g (simp l
 
 -- ---- calls that leave the run and the store alone
 
-abbrev Still : State → List Sample → Reply → Type 0
+abbrev pub Still : State → List Sample → Reply → Type 0
 Still s S z = (z .state .run ≡ s .run) × (z .store ≡ S)
 
 module _ (m : Meaning) (s : State) (S : List Sample) where
-  pub still-open : (ps : List ArrayType) → Still s S (serve m s S (open′ ps))
+  still-open : (ps : List ArrayType) → Still s S (serve m s S (open′ ps))
   still-open ps = asked-cases (Still s S) (openQuestions m s ps) (opensDraft s S ps) (refusal s S) (λ y. (refl, refl)) (λ n. (refl, refl))
 
-  pub still-line : (k : ℕ) (x : Line) → Still s S (serve m s S (line k x))
+  still-line : (k : ℕ) (x : Line) → Still s S (serve m s S (line k x))
   still-line k x = asked-cases (Still s S) (lineQuestions m s k x) (addsLine s S x) (refusal s S) (λ y. (refl, refl)) (λ n. (refl, refl))
 
   still-verdict : (f : Formula) (v : Verdict) → Still s S (serveVerdict m s S f v)
   still-verdict f (all-typed rs) = choose-cases (Still s S) (withinLimits (entryOf (entryAt s) (f .parameters) rs)) _ _ (λ y. (refl, refl)) (λ y. (refl, refl))
   still-verdict f (refused-at q k) = (refl, refl)
 
-  pub still-enter : (k : ℕ) → Still s S (serve m s S (enter k))
+  still-enter : (k : ℕ) → Still s S (serve m s S (enter k))
   still-enter k =
       choose-cases (Still s S) (slipFits (s .draft) k) _ _
       (λ y. choose-cases (Still s S) (not (none (draftLines (s .draft))) && ltb (length (s .formulas)) 64) _ _ (λ z. still-verdict (draftFormula (s .draft)) _) (λ z. (refl, refl)))
       (λ y. (refl, refl))
 
-  pub still-scrap : (k : ℕ) → Still s S (serve m s S (scrap k))
+  still-scrap : (k : ℕ) → Still s S (serve m s S (scrap k))
   still-scrap k = asked-cases (Still s S) (scrapQuestions s k) (dropsDraft s S) (refusal s S) (λ y. (refl, refl)) (λ n. (refl, refl))
 
-  pub still-withdraw : (g : ℕ) → Still s S (serve m s S (withdraw g))
+  still-withdraw : (g : ℕ) → Still s S (serve m s S (withdraw g))
   still-withdraw g = asked-cases (Still s S) (withdrawQuestions s g) (marksFormula s S g) (refusal s S) (λ y. (refl, refl)) (λ n. (refl, refl))
 
-  pub still-entry : (g : ℕ) → Still s S (serve m s S (entry g))
+  still-entry : (g : ℕ) → Still s S (serve m s S (entry g))
   still-entry g = asked-cases (Still s S) (entryQuestions s g) (tellsEntry s S g) (refusal s S) (λ y. (refl, refl)) (λ n. (refl, refl))
 
   -- ---- calls while a run is open
@@ -106,6 +106,27 @@ module _ (m : Meaning) (s : State) (S : List Sample) where
   pub close-open : noRun (s .run) ≡ false → serve m s S close ≡ endsRun s S
   unfolding choose
   close-open e = rw e
+
+-- ---- calls by what they are to a run
+
+pub data About : Call → Type 0 where
+  steps : About step′
+  begins : (g : ℕ) (cs : List ℕ) → About (begin g cs)
+  results : (k : ℕ) → About (result k)
+  closes : About close
+  others : {c : Call} → ((m : Meaning) (s : State) (S : List Sample) → Still s S (serve m s S c)) → ((a : Answer) → turn (event c a) ≡ elsewhere) → About c
+
+pub about : (c : Call) → About c
+about (open′ ps) = others (λ m s S. still-open m s S ps) (λ a. refl)
+about (line k x) = others (λ m s S. still-line m s S k x) (λ a. refl)
+about (enter k) = others (λ m s S. still-enter m s S k) (λ a. refl)
+about (scrap k) = others (λ m s S. still-scrap m s S k) (λ a. refl)
+about (withdraw g) = others (λ m s S. still-withdraw m s S g) (λ a. refl)
+about (entry g) = others (λ m s S. still-entry m s S g) (λ a. refl)
+about (begin g cs) = begins g cs
+about step′ = steps
+about (result k) = results k
+about close = closes
 
 -- a snapshot is its store and its activations
 pub snapshot-is : (x : Snapshot) → at (storeOf x) (activationsOf x) ≡ x
@@ -184,63 +205,58 @@ module _ (m : Meaning) (formed : Formed m) (fs : List Formula) (g : ℕ) (l : g 
         same-choice true = refl
         same-choice false = refl
 
-    pub yields-phase : (h : List Event) (r : Reading) (s t : State) (S T : List Sample) → Leads m s S h t T → Agrees m r s → Later fs (r .formulas) → s .run ≡ finished g q → S ≡ S₀ → Yields ys h
-    yields-phase [] r s t S T w a o u v = tt
-    yields-phase (event step′ b ∷ h) r s t S T w a o u v =
-        let z : serve m s S step′ ≡ refusal s S 19 = ap (serveStep m s S) u in
-        (w .0 ∙ ap (λ (x : Reply). x .answer) z, yields-phase h r s t S T (subst (λ (x : Reply). Leads m (x .state) (x .store) h t T) z (w .1)) a o u v)
-    yields-phase (event (begin n cs) b ∷ h) r s t S T w a o u v =
-        let z : serve m s S (begin n cs) ≡ refusal s S 16 = begin-open m s S n cs (ap noRun u) in
-        (w .0 ∙ ap (λ (x : Reply). x .answer) z, yields-phase h r s t S T (subst (λ (x : Reply). Leads m (x .state) (x .store) h t T) z (w .1)) a o u v)
-    yields-phase (event (result k) b ∷ h) r s t S T w a o u v = go (leb (length ys) k) (w .0 ∙ ap (λ (x : Reply). x .answer) z) (subst (λ (x : Reply). Leads m (x .state) (x .store) h t T) z (w .1)) (λ w′. yields-phase h r s t S T w′ a o u v)
-      where
-        z : serve m s S (result k) ≡ pick (leb (length ys) k) (reply (wrote ys) s S) (refusal s S 21)
-        z = result-reply r s S k a o u v
+    abbrev Done : List Event → Type 0
+    Done h = (r : Reading) (s t : State) (S T : List Sample) → Leads m s S h t T → Agrees m r s → Later fs (r .formulas) → s .run ≡ finished g q → S ≡ S₀ → Yields ys (turns h)
 
-        go : (c : Bool) → b ≡ pick c (reply (wrote ys) s S) (refusal s S 21) .answer → Leads m (pick c (reply (wrote ys) s S) (refusal s S 21) .state) (pick c (reply (wrote ys) s S) (refusal s S 21) .store) h t T
-            → (Leads m s S h t T → Yields ys h) → (b ≡ pick c (wrote ys) (refused 21 None)) × Yields ys h
-        go true x w′ ih = (x, ih w′)
-        go false x w′ ih = (x, ih w′)
-    yields-phase (event close b ∷ h) r s t S T w a o u v = w .0 ∙ ap (λ (x : Reply). x .answer) (close-open m s S (ap noRun u))
-    yields-phase (event (open′ ps) b ∷ h) r s t S T w a o u v =
-        let k = still-open m s S ps in yields-phase h (readCall r (open′ ps) b) _ t _ T (w .1) (event-agrees m r s S (open′ ps) b (w .0) a) (later-trans _ _ _ o (read-later r (open′ ps) b)) (k .0 ∙ u) (k .1 ∙ v)
-    yields-phase (event (line n x) b ∷ h) r s t S T w a o u v =
-        let k = still-line m s S n x in yields-phase h (readCall r (line n x) b) _ t _ T (w .1) (event-agrees m r s S (line n x) b (w .0) a) (later-trans _ _ _ o (read-later r (line n x) b)) (k .0 ∙ u) (k .1 ∙ v)
-    yields-phase (event (enter n) b ∷ h) r s t S T w a o u v =
-        let k = still-enter m s S n in yields-phase h (readCall r (enter n) b) _ t _ T (w .1) (event-agrees m r s S (enter n) b (w .0) a) (later-trans _ _ _ o (read-later r (enter n) b)) (k .0 ∙ u) (k .1 ∙ v)
-    yields-phase (event (scrap n) b ∷ h) r s t S T w a o u v =
-        let k = still-scrap m s S n in yields-phase h (readCall r (scrap n) b) _ t _ T (w .1) (event-agrees m r s S (scrap n) b (w .0) a) (later-trans _ _ _ o (read-later r (scrap n) b)) (k .0 ∙ u) (k .1 ∙ v)
-    yields-phase (event (withdraw n) b ∷ h) r s t S T w a o u v =
-        let k = still-withdraw m s S n in yields-phase h (readCall r (withdraw n) b) _ t _ T (w .1) (event-agrees m r s S (withdraw n) b (w .0) a) (later-trans _ _ _ o (read-later r (withdraw n) b)) (k .0 ∙ u) (k .1 ∙ v)
-    yields-phase (event (entry n) b ∷ h) r s t S T w a o u v =
-        let k = still-entry m s S n in yields-phase h r _ t _ T (w .1) (event-agrees m r s S (entry n) b (w .0) a) o (k .0 ∙ u) (k .1 ∙ v)
+    picked : (h : List Event) (r : Reading) (s t : State) (S T : List Sample) (k : ℕ) (b : Answer) (c : Bool) → b ≡ pick c (reply (wrote ys) s S) (refusal s S 21) .answer
+        → Leads m (pick c (reply (wrote ys) s S) (refusal s S 21) .state) (pick c (reply (wrote ys) s S) (refusal s S 21) .store) h t T
+        → (Leads m s S h t T → Yields ys (turns h)) → (b ≡ pick c (wrote ys) (refused 21 None)) × Yields ys (turns h)
+    picked h r s t S T k b true e w ih = (e, ih w)
+    picked h r s t S T k b false e w ih = (e, ih w)
+
+    done-once : (c : Call) (b : Answer) (h : List Event) → About c → Done h → Done (event c b ∷ h)
+    done-once c b h steps ih r s t S T w a o u v =
+        let z : serve m s S step′ ≡ refusal s S 19 = ap (serveStep m s S) u in
+        (w .0 ∙ ap (λ (x : Reply). x .answer) z, ih r s t S T (subst (λ (x : Reply). Leads m (x .state) (x .store) h t T) z (w .1)) a o u v)
+    done-once c b h (begins n cs) ih r s t S T w a o u v =
+        let z : serve m s S (begin n cs) ≡ refusal s S 16 = begin-open m s S n cs (ap noRun u) in
+        (w .0 ∙ ap (λ (x : Reply). x .answer) z, ih r s t S T (subst (λ (x : Reply). Leads m (x .state) (x .store) h t T) z (w .1)) a o u v)
+    done-once c b h (results k) ih r s t S T w a o u v =
+        let z = result-reply r s S k a o u v in
+        picked h r s t S T k b (leb (length ys) k) (w .0 ∙ ap (λ (x : Reply). x .answer) z) (subst (λ (x : Reply). Leads m (x .state) (x .store) h t T) z (w .1)) (λ w′. ih r s t S T w′ a o u v)
+    done-once c b h closes ih r s t S T w a o u v = w .0 ∙ ap (λ (x : Reply). x .answer) (close-open m s S (ap noRun u))
+    done-once c b h (others still away) ih r s t S T w a o u v =
+        let k = still m s S in
+        subst (λ (x : Turn). Yields ys (x ∷ turns h)) (sym (away b))
+        (ih (readCall r c b) (serve m s S c .state) t (serve m s S c .store) T (w .1) (event-agrees m r s S c b (w .0) a) (later-trans _ _ _ o (read-later r c b)) (k .0 ∙ u) (k .1 ∙ v))
+
+    pub yields-phase : (h : List Event) → Done h
+    yields-phase [] r s t S T w a o u v = tt
+    yields-phase (event c b ∷ h) r s t S T w a o u v = done-once c b h (about c) (yields-phase h) r s t S T w a o u v
 
   -- ---- once it is faulted
 
-  pub faulted-phase : (h : List Event) (r : Reading) (s t : State) (S T : List Sample) → Leads m s S h t T → Agrees m r s → Later fs (r .formulas) → s .run ≡ broken g → Faulted h
-  faulted-phase [] r s t S T w a o u = tt
-  faulted-phase (event step′ b ∷ h) r s t S T w a o u =
+  abbrev Broken : List Event → Type 0
+  Broken h = (r : Reading) (s t : State) (S T : List Sample) → Leads m s S h t T → Agrees m r s → Later fs (r .formulas) → s .run ≡ broken g → Faulted (turns h)
+
+  broken-once : (c : Call) (b : Answer) (h : List Event) → About c → Broken h → Broken (event c b ∷ h)
+  broken-once c b h steps ih r s t S T w a o u =
       let z : serve m s S step′ ≡ refusal s S 19 = ap (serveStep m s S) u in
-      (w .0 ∙ ap (λ (x : Reply). x .answer) z, faulted-phase h r s t S T (subst (λ (x : Reply). Leads m (x .state) (x .store) h t T) z (w .1)) a o u)
-  faulted-phase (event (begin n cs) b ∷ h) r s t S T w a o u =
+      (w .0 ∙ ap (λ (x : Reply). x .answer) z, ih r s t S T (subst (λ (x : Reply). Leads m (x .state) (x .store) h t T) z (w .1)) a o u)
+  broken-once c b h (begins n cs) ih r s t S T w a o u =
       let z : serve m s S (begin n cs) ≡ refusal s S 16 = begin-open m s S n cs (ap noRun u) in
-      (w .0 ∙ ap (λ (x : Reply). x .answer) z, faulted-phase h r s t S T (subst (λ (x : Reply). Leads m (x .state) (x .store) h t T) z (w .1)) a o u)
-  faulted-phase (event (result k) b ∷ h) r s t S T w a o u =
+      (w .0 ∙ ap (λ (x : Reply). x .answer) z, ih r s t S T (subst (λ (x : Reply). Leads m (x .state) (x .store) h t T) z (w .1)) a o u)
+  broken-once c b h (results k) ih r s t S T w a o u =
       let z : serve m s S (result k) ≡ refusal s S 20 = ap (serveResult s S k) u in
-      (w .0 ∙ ap (λ (x : Reply). x .answer) z, faulted-phase h r s t S T (subst (λ (x : Reply). Leads m (x .state) (x .store) h t T) z (w .1)) a o u)
-  faulted-phase (event close b ∷ h) r s t S T w a o u = w .0 ∙ ap (λ (x : Reply). x .answer) (close-open m s S (ap noRun u))
-  faulted-phase (event (open′ ps) b ∷ h) r s t S T w a o u =
-      let k = still-open m s S ps in faulted-phase h (readCall r (open′ ps) b) _ t _ T (w .1) (event-agrees m r s S (open′ ps) b (w .0) a) (later-trans _ _ _ o (read-later r (open′ ps) b)) (k .0 ∙ u)
-  faulted-phase (event (line n x) b ∷ h) r s t S T w a o u =
-      let k = still-line m s S n x in faulted-phase h (readCall r (line n x) b) _ t _ T (w .1) (event-agrees m r s S (line n x) b (w .0) a) (later-trans _ _ _ o (read-later r (line n x) b)) (k .0 ∙ u)
-  faulted-phase (event (enter n) b ∷ h) r s t S T w a o u =
-      let k = still-enter m s S n in faulted-phase h (readCall r (enter n) b) _ t _ T (w .1) (event-agrees m r s S (enter n) b (w .0) a) (later-trans _ _ _ o (read-later r (enter n) b)) (k .0 ∙ u)
-  faulted-phase (event (scrap n) b ∷ h) r s t S T w a o u =
-      let k = still-scrap m s S n in faulted-phase h (readCall r (scrap n) b) _ t _ T (w .1) (event-agrees m r s S (scrap n) b (w .0) a) (later-trans _ _ _ o (read-later r (scrap n) b)) (k .0 ∙ u)
-  faulted-phase (event (withdraw n) b ∷ h) r s t S T w a o u =
-      let k = still-withdraw m s S n in faulted-phase h (readCall r (withdraw n) b) _ t _ T (w .1) (event-agrees m r s S (withdraw n) b (w .0) a) (later-trans _ _ _ o (read-later r (withdraw n) b)) (k .0 ∙ u)
-  faulted-phase (event (entry n) b ∷ h) r s t S T w a o u =
-      let k = still-entry m s S n in faulted-phase h r _ t _ T (w .1) (event-agrees m r s S (entry n) b (w .0) a) o (k .0 ∙ u)
+      (w .0 ∙ ap (λ (x : Reply). x .answer) z, ih r s t S T (subst (λ (x : Reply). Leads m (x .state) (x .store) h t T) z (w .1)) a o u)
+  broken-once c b h closes ih r s t S T w a o u = w .0 ∙ ap (λ (x : Reply). x .answer) (close-open m s S (ap noRun u))
+  broken-once c b h (others still away) ih r s t S T w a o u =
+      subst (λ (x : Turn). Faulted (x ∷ turns h)) (sym (away b))
+      (ih (readCall r c b) (serve m s S c .state) t (serve m s S c .store) T (w .1) (event-agrees m r s S c b (w .0) a) (later-trans _ _ _ o (read-later r c b)) (still m s S .0 ∙ u))
+
+  pub faulted-phase : (h : List Event) → Broken h
+  faulted-phase [] r s t S T w a o u = tt
+  faulted-phase (event c b ∷ h) r s t S T w a o u = broken-once c b h (about c) (faulted-phase h) r s t S T w a o u
 
   -- ---- while it is at work
 
@@ -256,52 +272,54 @@ module _ (m : Meaning) (formed : Formed m) (fs : List Formula) (g : ℕ) (l : g 
   progressed-more : (s : State) (S : List Sample) (x : Snapshot) → progressed s S g (more x) ≡ reply goes-on (withRun s (going g (activationsOf x))) (storeOf x)
   progressed-more s S (at T ts) = refl
 
-  module _ (last : Snapshot) (b : Answer) (end : Run) (U : List Sample) (after : List Event → Type 0)
+  module _ (last : Snapshot) (b : Answer) (end : Run) (U : List Sample) (after : List Turn → Type 0)
       (ends : (r : Reading) (s : State) (S : List Sample) → Agrees m r s → Later fs (r .formulas) → progressed s S g (step m (planAt s) last) ≡ reply b (withRun s end) U)
-      (rest : (h : List Event) (r : Reading) (s t : State) (T : List Sample) → Leads m s U h t T → Agrees m r s → Later fs (r .formulas) → s .run ≡ end → after h) where
-    follow : (h : List Event) (r : Reading) (s t : State) (S T : List Sample) (cur : Snapshot) (j : ℕ) → Leads m s S h t T → Agrees m r s → Later fs (r .formulas)
-        → s .run ≡ going g (activationsOf cur) → S ≡ storeOf cur → needs e ≤ length (storeOf cur) → Runs m Ok (e .depth) 0 (needs e) j cur last → Goes j b after h
-    follow [] r s t S T cur j w a o u v room runs = tt
-    follow (event step′ c ∷ h) r s t S T cur j w a o u v room stay =
+      (rest : (h : List Event) (r : Reading) (s t : State) (T : List Sample) → Leads m s U h t T → Agrees m r s → Later fs (r .formulas) → s .run ≡ end → after (turns h)) where
+    -- the run is at this snapshot, j steps before the last
+    abbrev AtWork : List Event → Type 0
+    AtWork h = (r : Reading) (s t : State) (S T : List Sample) (cur : Snapshot) (j : ℕ) → Leads m s S h t T → Agrees m r s → Later fs (r .formulas)
+        → s .run ≡ going g (activationsOf cur) → S ≡ storeOf cur → needs e ≤ length (storeOf cur) → Runs m Ok (e .depth) 0 (needs e) j cur last → Goes j b after (turns h)
+
+    step-once : (c : Answer) (h : List Event) → AtWork h → AtWork (event step′ c ∷ h)
+    step-once c h ih r s t S T cur j w a o u v room stay =
         let z : serve m s S step′ ≡ reply b (withRun s end) U = step-reply r s S cur a o u v room ∙ ends r s S a o in
         (w .0 ∙ ap (λ (x : Reply). x .answer) z, rest h r (withRun s end) t T (subst (λ (x : Reply). Leads m (x .state) (x .store) h t T) z (w .1)) (rerun m r s end a) o refl)
-    follow (event step′ c ∷ h) r s t S T cur j w a o u v room (move {n = n} {t = x} f same few runs) =
+    step-once c h ih r s t S T cur j w a o u v room (move {n = n} {t = x} f same few runs) =
         let z : serve m s S step′ ≡ reply goes-on (withRun s (going g (activationsOf x))) (storeOf x) =
         step-reply r s S cur a o u v room ∙ ap (progressed s S g) (f (planAt s) (plans-ok r s a o)) ∙ progressed-more s S x in
         let long = same .long in (
           w .0 ∙ ap (λ (y : Reply). y .answer) z,
-          follow h r (withRun s (going g (activationsOf x))) t (storeOf x) T x n (subst (λ (y : Reply). Leads m (y .state) (y .store) h t T) z (w .1)) (rerun m r s _ a) o refl refl (omega arith) runs,
+          ih r (withRun s (going g (activationsOf x))) t (storeOf x) T x n (subst (λ (y : Reply). Leads m (y .state) (y .store) h t T) z (w .1)) (rerun m r s _ a) o refl refl (omega arith) runs,
         )
-    follow (event (begin n cs) c ∷ h) r s t S T cur j w a o u v room runs =
+
+    work-once : (c : Call) (d : Answer) (h : List Event) → About c → AtWork h → AtWork (event c d ∷ h)
+    work-once c d h steps ih r s t S T cur j w a o u v room runs = step-once d h ih r s t S T cur j w a o u v room runs
+    work-once c d h (begins n cs) ih r s t S T cur j w a o u v room runs =
         let z : serve m s S (begin n cs) ≡ refusal s S 16 = begin-open m s S n cs (ap noRun u) in
-        (w .0 ∙ ap (λ (x : Reply). x .answer) z, follow h r s t S T cur j (subst (λ (x : Reply). Leads m (x .state) (x .store) h t T) z (w .1)) a o u v room runs)
-    follow (event (result k) c ∷ h) r s t S T cur j w a o u v room runs =
+        (w .0 ∙ ap (λ (x : Reply). x .answer) z, ih r s t S T cur j (subst (λ (x : Reply). Leads m (x .state) (x .store) h t T) z (w .1)) a o u v room runs)
+    work-once c d h (results k) ih r s t S T cur j w a o u v room runs =
         let z : serve m s S (result k) ≡ refusal s S 20 = ap (serveResult s S k) u in
-        (w .0 ∙ ap (λ (x : Reply). x .answer) z, follow h r s t S T cur j (subst (λ (x : Reply). Leads m (x .state) (x .store) h t T) z (w .1)) a o u v room runs)
-    follow (event close c ∷ h) r s t S T cur j w a o u v room runs = w .0 ∙ ap (λ (x : Reply). x .answer) (close-open m s S (ap noRun u))
-    follow (event (open′ ps) c ∷ h) r s t S T cur j w a o u v room runs =
-        let k = still-open m s S ps in follow h (readCall r (open′ ps) c) _ t _ T cur j (w .1) (event-agrees m r s S (open′ ps) c (w .0) a) (later-trans _ _ _ o (read-later r (open′ ps) c)) (k .0 ∙ u) (k .1 ∙ v) room runs
-    follow (event (line n x) c ∷ h) r s t S T cur j w a o u v room runs =
-        let k = still-line m s S n x in follow h (readCall r (line n x) c) _ t _ T cur j (w .1) (event-agrees m r s S (line n x) c (w .0) a) (later-trans _ _ _ o (read-later r (line n x) c)) (k .0 ∙ u) (k .1 ∙ v) room runs
-    follow (event (enter n) c ∷ h) r s t S T cur j w a o u v room runs =
-        let k = still-enter m s S n in follow h (readCall r (enter n) c) _ t _ T cur j (w .1) (event-agrees m r s S (enter n) c (w .0) a) (later-trans _ _ _ o (read-later r (enter n) c)) (k .0 ∙ u) (k .1 ∙ v) room runs
-    follow (event (scrap n) c ∷ h) r s t S T cur j w a o u v room runs =
-        let k = still-scrap m s S n in follow h (readCall r (scrap n) c) _ t _ T cur j (w .1) (event-agrees m r s S (scrap n) c (w .0) a) (later-trans _ _ _ o (read-later r (scrap n) c)) (k .0 ∙ u) (k .1 ∙ v) room runs
-    follow (event (withdraw n) c ∷ h) r s t S T cur j w a o u v room runs =
-        let k = still-withdraw m s S n in follow h (readCall r (withdraw n) c) _ t _ T cur j (w .1) (event-agrees m r s S (withdraw n) c (w .0) a) (later-trans _ _ _ o (read-later r (withdraw n) c)) (k .0 ∙ u) (k .1 ∙ v) room runs
-    follow (event (entry n) c ∷ h) r s t S T cur j w a o u v room runs =
-        let k = still-entry m s S n in follow h r _ t _ T cur j (w .1) (event-agrees m r s S (entry n) c (w .0) a) o (k .0 ∙ u) (k .1 ∙ v) room runs
+        (w .0 ∙ ap (λ (x : Reply). x .answer) z, ih r s t S T cur j (subst (λ (x : Reply). Leads m (x .state) (x .store) h t T) z (w .1)) a o u v room runs)
+    work-once c d h closes ih r s t S T cur j w a o u v room runs = w .0 ∙ ap (λ (x : Reply). x .answer) (close-open m s S (ap noRun u))
+    work-once c d h (others still away) ih r s t S T cur j w a o u v room runs =
+        let k = still m s S in
+        subst (λ (x : Turn). Goes j b after (x ∷ turns h)) (sym (away d))
+        (ih (readCall r c d) (serve m s S c .state) t (serve m s S c .store) T cur j (w .1) (event-agrees m r s S c d (w .0) a) (later-trans _ _ _ o (read-later r c d)) (k .0 ∙ u) (k .1 ∙ v) room runs)
+
+    follow : (h : List Event) → AtWork h
+    follow [] r s t S T cur j w a o u v room runs = tt
+    follow (event c d ∷ h) r s t S T cur j w a o u v room runs = work-once c d h (about c) (follow h) r s t S T cur j w a o u v room runs
 
   progressed-fault : (s : State) (S : List Sample) (x : Snapshot) (y : Fault Sample) → progressed s S g (faulted x y) ≡ reply (fault (y .cause) (y .formula) (y .line) (y .cell)) (withRun s (broken g)) (storeOf x)
   progressed-fault s S (at T ts) y = refl
 
   -- what follows a begin, from the way the run ends; with the steps before a fault
-  abbrev pub Follows : ℕ → Outcome ℕ → List Event → Type 0
+  abbrev pub Follows : ℕ → Outcome ℕ → List Turn → Type 0
   Follows j (yields ys) h = Goes (e .steps - 1) is-done (Yields ys) h
   Follows j (faults x) h = Goes j (fault (x .cause) (x .formula) (x .line) (x .cell)) Faulted h
 
   pub begun-follows : (j : ℕ) (x : Outcome ℕ) (h : List Event) (r : Reading) (s t : State) (S T : List Sample) (ts : List Activation) → Leads m s S h t T → Agrees m r s → Later fs (r .formulas)
-      → s .run ≡ going g ts → needs e ≤ length S → Ending j (at S ts) x → Follows j x h
+      → s .run ≡ going g ts → needs e ≤ length S → Ending j (at S ts) x → Follows j x (turns h)
   begun-follows j (yields ys) h r s t S T ts w a o u room (f, long, inb) =
       follow (f .last) is-done (finished g (f .place)) (storeOf (f .last)) (Yields ys)
       (λ r′ s′ S′ a′ o′. ap (progressed s′ S′ g) (f .ends (planAt s′) (plans-ok r′ s′ a′ o′)))

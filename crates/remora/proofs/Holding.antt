@@ -20,7 +20,7 @@ use Rattle.remora.specs.Evaluation.{Array, Fault, Outcome, yields, faults, onC
 use Rattle.remora.specs.Numbers.{pick, linesOf, known, eval, arguments, outcome}
 use Rattle.remora.specs.Machine.{Snapshot, at, Activation, put, choose}
 use Rattle.remora.specs.Calls.{Draft, shut, opened, slipFits, draftFormula, draftParameters, draftLines, none, noFormula, Run, going, State, empty, entryAt, usableAt, withDraft, withRun, Call, open′, line, enter, scrap, withdraw, entry, begin, step′, result, close, Answer, refused, number, ok, states, goes-on, is-done, fault, wrote, Reply, reply, asked, refusal, entryQuestions, tellsEntry, parameterAtoms, codesFit, samplesFor, needs, firstActivation, storeFits, beginQuestions, beginsRun, serveVerdict, serve}
-use Rattle.remora.specs.Histories.{Event, event, Leads, Led, Reading, unread, readCall, readFrom, reading, member, Goes, Yields, Faulted, EndsAs, RunHolds, End, not-ended, ended, endStep, endOf, Wrote, EndAlike, Enterable, EnteredExactly, Holds, EveryHistoryHolds}
+use Rattle.remora.specs.Histories.{Event, event, Leads, Led, Reading, unread, readCall, readFrom, reading, member, Turn, stepped, begun, read, closed, elsewhere, turns, Goes, Yields, Faulted, EndsAs, RunHolds, End, not-ended, ended, endStep, endOf, Wrote, EndAlike, Enterable, EnteredExactly, Holds, EveryHistoryHolds}
 use Rattle.remora.proofs.Checking.{judge-types, types-judge}
 use Rattle.remora.proofs.Sizes.{known-here, known-later, eval-later}
 use Rattle.remora.proofs.Regions.{Same, put-same}
@@ -60,77 +60,57 @@ number-refused n k o e = let z : _≡_ {A = ℕ} 0 1 = cc in omega arith
 
 -- ---- how a run that goes so ends, and what it writes
 
-goes-end : (last : Answer) (after : List Event → Type 0) → ((k : ℕ) (same more : End) → endStep k last same more ≡ ended (suc k) last) → (h : List Event) (j i k : ℕ) (a : Answer) → Goes j last after h
+goes-end : (last : Answer) (after : List Turn → Type 0) → ((k : ℕ) (same more : End) → endStep k last same more ≡ ended (suc k) last) → (h : List Turn) (j i k : ℕ) (a : Answer) → Goes j last after h
     → endOf i h ≡ ended k a → (k ≡ suc (i + j)) × (a ≡ last)
 goes-end last after fin [] j i k a g e = let z : _≡_ {A = ℕ} 0 1 = cc in absurd (omega arith)
-goes-end last after fin (event step′ c ∷ h) zero i k a g e =
+goes-end last after fin (stepped c ∷ h) zero i k a g e =
     let u : ended (suc i) last ≡ ended k a = sym (fin i (endOf i h) (endOf (suc i) h)) ∙ ap (λ (x : Answer). endStep i x (endOf i h) (endOf (suc i) h)) (sym (g .0)) ∙ e in
     let v : suc i ≡ k = cc in
     let w : last ≡ a = cc in
     (omega arith, sym w)
-goes-end last after fin (event step′ c ∷ h) (suc j) i k a g e =
+goes-end last after fin (stepped c ∷ h) (suc j) i k a g e =
     let u : endOf (suc i) h ≡ ended k a = ap (λ (x : Answer). endStep i x (endOf i h) (endOf (suc i) h)) (sym (g .0)) ∙ e in
     let v = goes-end last after fin h j (suc i) k a (g .1) u in
     (let w = v .0 in omega arith, v .1)
-goes-end last after fin (event (begin n cs) c ∷ h) j i k a g e = goes-end last after fin h j i k a (g .1) e
-goes-end last after fin (event (result n) c ∷ h) j i k a g e = goes-end last after fin h j i k a (g .1) e
-goes-end last after fin (event close c ∷ h) j i k a g e = let z : _≡_ {A = ℕ} 0 1 = cc in absurd (omega arith)
-goes-end last after fin (event (open′ ps) c ∷ h) j i k a g e = goes-end last after fin h j i k a g e
-goes-end last after fin (event (line n x) c ∷ h) j i k a g e = goes-end last after fin h j i k a g e
-goes-end last after fin (event (enter n) c ∷ h) j i k a g e = goes-end last after fin h j i k a g e
-goes-end last after fin (event (scrap n) c ∷ h) j i k a g e = goes-end last after fin h j i k a g e
-goes-end last after fin (event (withdraw n) c ∷ h) j i k a g e = goes-end last after fin h j i k a g e
-goes-end last after fin (event (entry n) c ∷ h) j i k a g e = goes-end last after fin h j i k a g e
+goes-end last after fin (begun c ∷ h) j i k a g e = goes-end last after fin h j i k a (g .1) e
+goes-end last after fin (read n c ∷ h) j i k a g e = goes-end last after fin h j i k a (g .1) e
+goes-end last after fin (closed c ∷ h) j i k a g e = let z : _≡_ {A = ℕ} 0 1 = cc in absurd (omega arith)
+goes-end last after fin (elsewhere ∷ h) j i k a g e = goes-end last after fin h j i k a g e
 
 refused-wrote : (c : Answer) (n : ℕ) (ys : List ℕ) → c ≡ refused n None → c ≡ wrote ys → ⊥
 refused-wrote c n ys e u = let v : refused n None ≡ wrote ys = sym e ∙ u in let z : _≡_ {A = ℕ} 0 1 = cc in omega arith
 
-goes-wrote : (last : Answer) (after : List Event → Type 0) (ys : List ℕ) (P : Type 0) → ((h : List Event) → after h → Wrote ys h → P) → (h : List Event) (j : ℕ) → Goes j last after h → Wrote ys h → P
+goes-wrote : (last : Answer) (after : List Turn → Type 0) (ys : List ℕ) (P : Type 0) → ((h : List Turn) → after h → Wrote ys h → P) → (h : List Turn) (j : ℕ) → Goes j last after h → Wrote ys h → P
 goes-wrote last after ys P f [] j g w = absurd w
-goes-wrote last after ys P f (event step′ c ∷ h) zero g w = f h (g .1) w
-goes-wrote last after ys P f (event step′ c ∷ h) (suc j) g w = goes-wrote last after ys P f h j (g .1) w
-goes-wrote last after ys P f (event (begin n cs) c ∷ h) j g w = goes-wrote last after ys P f h j (g .1) w
-goes-wrote last after ys P f (event (result n) c ∷ h) j g (inl e) = absurd (refused-wrote c 20 ys (g .0) e)
-goes-wrote last after ys P f (event (result n) c ∷ h) j g (inr w) = goes-wrote last after ys P f h j (g .1) w
-goes-wrote last after ys P f (event close c ∷ h) j g w = absurd w
-goes-wrote last after ys P f (event (open′ ps) c ∷ h) j g w = goes-wrote last after ys P f h j g w
-goes-wrote last after ys P f (event (line n x) c ∷ h) j g w = goes-wrote last after ys P f h j g w
-goes-wrote last after ys P f (event (enter n) c ∷ h) j g w = goes-wrote last after ys P f h j g w
-goes-wrote last after ys P f (event (scrap n) c ∷ h) j g w = goes-wrote last after ys P f h j g w
-goes-wrote last after ys P f (event (withdraw n) c ∷ h) j g w = goes-wrote last after ys P f h j g w
-goes-wrote last after ys P f (event (entry n) c ∷ h) j g w = goes-wrote last after ys P f h j g w
+goes-wrote last after ys P f (stepped c ∷ h) zero g w = f h (g .1) w
+goes-wrote last after ys P f (stepped c ∷ h) (suc j) g w = goes-wrote last after ys P f h j (g .1) w
+goes-wrote last after ys P f (begun c ∷ h) j g w = goes-wrote last after ys P f h j (g .1) w
+goes-wrote last after ys P f (read n c ∷ h) j g (inl e) = absurd (refused-wrote c 20 ys (g .0) e)
+goes-wrote last after ys P f (read n c ∷ h) j g (inr w) = goes-wrote last after ys P f h j (g .1) w
+goes-wrote last after ys P f (closed c ∷ h) j g w = absurd w
+goes-wrote last after ys P f (elsewhere ∷ h) j g w = goes-wrote last after ys P f h j g w
 
 picked-wrote : (b : Bool) (ys zs : List ℕ) → pick b (wrote zs) (refused 21 None) ≡ wrote ys → ys ≡ zs
 picked-wrote true ys zs e = let z : zs ≡ ys = cc in sym z
 picked-wrote false ys zs e = let z : _≡_ {A = ℕ} 0 1 = cc in absurd (omega arith)
 
-yields-wrote : (zs ys : List ℕ) (h : List Event) → Yields zs h → Wrote ys h → ys ≡ zs
+yields-wrote : (zs ys : List ℕ) (h : List Turn) → Yields zs h → Wrote ys h → ys ≡ zs
 yields-wrote zs ys [] y w = absurd w
-yields-wrote zs ys (event step′ c ∷ h) y w = yields-wrote zs ys h (y .1) w
-yields-wrote zs ys (event (begin n cs) c ∷ h) y w = yields-wrote zs ys h (y .1) w
-yields-wrote zs ys (event (result n) c ∷ h) y (inl e) = picked-wrote (leb (length zs) n) ys zs (sym (y .0) ∙ e)
-yields-wrote zs ys (event (result n) c ∷ h) y (inr w) = yields-wrote zs ys h (y .1) w
-yields-wrote zs ys (event close c ∷ h) y w = absurd w
-yields-wrote zs ys (event (open′ ps) c ∷ h) y w = yields-wrote zs ys h y w
-yields-wrote zs ys (event (line n x) c ∷ h) y w = yields-wrote zs ys h y w
-yields-wrote zs ys (event (enter n) c ∷ h) y w = yields-wrote zs ys h y w
-yields-wrote zs ys (event (scrap n) c ∷ h) y w = yields-wrote zs ys h y w
-yields-wrote zs ys (event (withdraw n) c ∷ h) y w = yields-wrote zs ys h y w
-yields-wrote zs ys (event (entry n) c ∷ h) y w = yields-wrote zs ys h y w
+yields-wrote zs ys (stepped c ∷ h) y w = yields-wrote zs ys h (y .1) w
+yields-wrote zs ys (begun c ∷ h) y w = yields-wrote zs ys h (y .1) w
+yields-wrote zs ys (read n c ∷ h) y (inl e) = picked-wrote (leb (length zs) n) ys zs (sym (y .0) ∙ e)
+yields-wrote zs ys (read n c ∷ h) y (inr w) = yields-wrote zs ys h (y .1) w
+yields-wrote zs ys (closed c ∷ h) y w = absurd w
+yields-wrote zs ys (elsewhere ∷ h) y w = yields-wrote zs ys h y w
 
-faulted-wrote : (ys : List ℕ) (h : List Event) → Faulted h → Wrote ys h → ⊥
+faulted-wrote : (ys : List ℕ) (h : List Turn) → Faulted h → Wrote ys h → ⊥
 faulted-wrote ys [] y w = w
-faulted-wrote ys (event step′ c ∷ h) y w = faulted-wrote ys h (y .1) w
-faulted-wrote ys (event (begin n cs) c ∷ h) y w = faulted-wrote ys h (y .1) w
-faulted-wrote ys (event (result n) c ∷ h) y (inl e) = refused-wrote c 20 ys (y .0) e
-faulted-wrote ys (event (result n) c ∷ h) y (inr w) = faulted-wrote ys h (y .1) w
-faulted-wrote ys (event close c ∷ h) y w = w
-faulted-wrote ys (event (open′ ps) c ∷ h) y w = faulted-wrote ys h y w
-faulted-wrote ys (event (line n x) c ∷ h) y w = faulted-wrote ys h y w
-faulted-wrote ys (event (enter n) c ∷ h) y w = faulted-wrote ys h y w
-faulted-wrote ys (event (scrap n) c ∷ h) y w = faulted-wrote ys h y w
-faulted-wrote ys (event (withdraw n) c ∷ h) y w = faulted-wrote ys h y w
-faulted-wrote ys (event (entry n) c ∷ h) y w = faulted-wrote ys h y w
+faulted-wrote ys (stepped c ∷ h) y w = faulted-wrote ys h (y .1) w
+faulted-wrote ys (begun c ∷ h) y w = faulted-wrote ys h (y .1) w
+faulted-wrote ys (read n c ∷ h) y (inl e) = refused-wrote c 20 ys (y .0) e
+faulted-wrote ys (read n c ∷ h) y (inr w) = faulted-wrote ys h (y .1) w
+faulted-wrote ys (closed c ∷ h) y w = w
+faulted-wrote ys (elsewhere ∷ h) y w = faulted-wrote ys h y w
 
 -- ---- the draft that is entered
 
@@ -218,21 +198,21 @@ module _ (m : Meaning) (formed : Formed m) (h : List Event) (t : State) (T : Lis
     entered : g < length fs
     forecast : s ≡ known m fs g .steps
     some : 1 ≤ s
-    ends : EndsAs m s (known m fs g .result) (outcome m fs g cs) future
-    follows : Follows m formed fs g entered (faultStep m fs g (arguments (known m fs g .parameters) (samplesFor (known m fs g .parameters) cs))) (outcome m fs g cs) future
+    ends : EndsAs m s (known m fs g .result) (outcome m fs g cs) (turns future)
+    follows : Follows m formed fs g entered (faultStep m fs g (arguments (known m fs g .parameters) (samplesFor (known m fs g .parameters) cs))) (outcome m fs g cs) (turns future)
 
-  ends-as : (fs : List Formula) (g : ℕ) (l : g < length fs) (j : ℕ) (x : Outcome ℕ) (u : Snapshot) (future : List Event) → Ending m formed fs g l j u x → Follows m formed fs g l j x future
+  ends-as : (fs : List Formula) (g : ℕ) (l : g < length fs) (j : ℕ) (x : Outcome ℕ) (u : Snapshot) (future : List Turn) → Ending m formed fs g l j u x → Follows m formed fs g l j x future
       → EndsAs m (known m fs g .steps) (known m fs g .result) x future
   ends-as fs g l j (yields ys) u future (f, long, inb) go = (go, long, inb)
   ends-as fs g l j (faults x) u future (f, own) go = (j, f .early, go, own)
 
-  begun : (past future : List Event) (g : ℕ) (cs : List ℕ) (s : ℕ) → h ≡ past ++ event (begin g cs) (number s) ∷ future → Begun (reading past .formulas) g cs s future
-  begun past future g cs s e =
+  begun-at : (past future : List Event) (g : ℕ) (cs : List ℕ) (s : ℕ) → h ≡ past ++ event (begin g cs) (number s) ∷ future → Begun (reading past .formulas) g cs s future
+  begun-at past future g cs s e =
       record {
         entered = l;
         forecast = s-is;
         some = subst (λ (i : ℕ). 1 ≤ i) (sym s-is) (story .0);
-        ends = subst (λ (i : ℕ). EndsAs m i (known m fs g .result) (outcome m fs g cs) future) (sym s-is) (ends-as fs g l _ (outcome m fs g cs) _ future (story .1) go);
+        ends = subst (λ (i : ℕ). EndsAs m i (known m fs g .result) (outcome m fs g cs) (turns future)) (sym s-is) (ends-as fs g l _ (outcome m fs g cs) _ (turns future) (story .1) go);
         follows = go;
       }
     where
@@ -286,13 +266,13 @@ module _ (m : Meaning) (formed : Formed m) (h : List Event) (t : State) (T : Lis
           let y = put-same 0 (length U) U 0 (samplesFor (known m fs g .parameters) cs) (omega arith) (omega arith) (omega arith) .long in
           omega arith
 
-      go : Follows m formed fs g l (faultStep m fs g (arguments (known m fs g .parameters) (samplesFor (known m fs g .parameters) cs))) (outcome m fs g cs) future
+      go : Follows m formed fs g l (faultStep m fs g (arguments (known m fs g .parameters) (samplesFor (known m fs g .parameters) cs))) (outcome m fs g cs) (turns future)
       go = begun-follows m formed fs g l _ (outcome m fs g cs) future (reading past) (withRun u (going g (firstActivation (known m fs g) g ∷ []))) t (put U 0 (samplesFor (known m fs g .parameters) cs)) T
           (firstActivation (known m fs g) g ∷ []) (subst (λ (x : Reply). Leads m (x .state) (x .store) future t T) z (cut .back .1)) (rerun m (reading past) u _ a) (later-refl fs) refl room′ (story .1)
 
   -- equal outcomes after equally many steps end alike
-  follows-alike : (n j : ℕ) (x : Outcome ℕ) (h₁ h₂ : List Event) (F : Outcome ℕ → List Event → Type 0)
-      → ((k : List Event) (ys : List ℕ) → F (yields ys) k → Goes n is-done (Yields ys) k) → ((k : List Event) (y : Fault ℕ) → F (faults y) k → Goes j (fault (y .cause) (y .formula) (y .line) (y .cell)) Faulted k)
+  follows-alike : (n j : ℕ) (x : Outcome ℕ) (h₁ h₂ : List Turn) (F : Outcome ℕ → List Turn → Type 0)
+      → ((k : List Turn) (ys : List ℕ) → F (yields ys) k → Goes n is-done (Yields ys) k) → ((k : List Turn) (y : Fault ℕ) → F (faults y) k → Goes j (fault (y .cause) (y .formula) (y .line) (y .cell)) Faulted k)
       → F x h₁ → F x h₂ → EndAlike h₁ h₂
   follows-alike n j (yields ys) h₁ h₂ F f₁ f₂ a b =
       record {
@@ -314,19 +294,19 @@ module _ (m : Meaning) (formed : Formed m) (h : List Event) (t : State) (T : Lis
       }
 
   -- what follows a begin, by the formulas of the whole history
-  abbrev Whole : ℕ → List ℕ → Outcome ℕ → List Event → Type 0
+  abbrev Whole : ℕ → List ℕ → Outcome ℕ → List Turn → Type 0
   Whole g cs (yields ys) k = Goes (known m (reading h .formulas) g .steps - 1) is-done (Yields ys) k
   Whole g cs (faults x) k = Goes (faultStep m (reading h .formulas) g (arguments (known m (reading h .formulas) g .parameters) (samplesFor (known m (reading h .formulas) g .parameters) cs)))
       (fault (x .cause) (x .formula) (x .line) (x .cell)) Faulted k
 
-  whole : (past future : List Event) (g : ℕ) (cs : List ℕ) (s : ℕ) → h ≡ past ++ event (begin g cs) (number s) ∷ future → Whole g cs (outcome m (reading h .formulas) g cs) future
+  whole : (past future : List Event) (g : ℕ) (cs : List ℕ) (s : ℕ) → h ≡ past ++ event (begin g cs) (number s) ∷ future → Whole g cs (outcome m (reading h .formulas) g cs) (turns future)
   whole past future g cs s e = go (outcome m fs g cs) (outcome m (reading h .formulas) g cs) outcome-is (b .follows)
     where
       fs : List Formula
       fs = reading past .formulas
 
       b : Begun (reading past .formulas) g cs s future
-      b = begun past future g cs s e
+      b = begun-at past future g cs s e
 
       x-is : known m fs g ≡ known m (reading h .formulas) g
       x-is = known-whole past (event (begin g cs) (number s) ∷ future) e g (b .entered)
@@ -345,12 +325,12 @@ module _ (m : Meaning) (formed : Formed m) (h : List Event) (t : State) (T : Lis
           ap (λ (x : Entry). faultStep m fs g (arguments (x .parameters) (samplesFor (x .parameters) cs))) x-is
           ∙ sym (ap (λ (gs : List Formula). faultStep m gs g (arguments (known m (reading h .formulas) g .parameters) (samplesFor (known m (reading h .formulas) g .parameters) cs))) (o .1) ∙ faultStep-later m fs (o .0) g _ (b .entered))
 
-      go : (x y : Outcome ℕ) → x ≡ y → Follows m formed fs g (b .entered) (faultStep m fs g (arguments (known m fs g .parameters) (samplesFor (known m fs g .parameters) cs))) x future → Whole g cs y future
-      go x y q w = subst (λ (z : Outcome ℕ). Whole g cs z future) q (same x w)
+      go : (x y : Outcome ℕ) → x ≡ y → Follows m formed fs g (b .entered) (faultStep m fs g (arguments (known m fs g .parameters) (samplesFor (known m fs g .parameters) cs))) x (turns future) → Whole g cs y (turns future)
+      go x y q w = subst (λ (z : Outcome ℕ). Whole g cs z (turns future)) q (same x w)
         where
-          same : (z : Outcome ℕ) → Follows m formed fs g (b .entered) (faultStep m fs g (arguments (known m fs g .parameters) (samplesFor (known m fs g .parameters) cs))) z future → Whole g cs z future
-          same (yields ys) w = subst (λ (v : Entry). Goes (v .steps - 1) is-done (Yields ys) future) x-is w
-          same (faults v) w = subst (λ (i : ℕ). Goes i (fault (v .cause) (v .formula) (v .line) (v .cell)) Faulted future) fault-is w
+          same : (z : Outcome ℕ) → Follows m formed fs g (b .entered) (faultStep m fs g (arguments (known m fs g .parameters) (samplesFor (known m fs g .parameters) cs))) z (turns future) → Whole g cs z (turns future)
+          same (yields ys) w = subst (λ (v : Entry). Goes (v .steps - 1) is-done (Yields ys) (turns future)) x-is w
+          same (faults v) w = subst (λ (i : ℕ). Goes i (fault (v .cause) (v .formula) (v .line) (v .cell)) Faulted (turns future)) fault-is w
 
   -- an entry that was told
   told : (past future : List Event) (g : ℕ) (x : Entry) (w : Bool) → h ≡ past ++ event (entry g) (states x w) ∷ future
@@ -368,10 +348,10 @@ module _ (m : Meaning) (formed : Formed m) (h : List Event) (t : State) (T : Lis
 
   pub holds : Holds m h
   holds = record {
-    runs = λ past future g cs s e. let b = begun past future g cs s e in record { entered = b .entered; forecast = b .forecast; some = b .some; ends = b .ends };
+    runs = λ past future g cs s e. let b = begun-at past future g cs s e in record { entered = b .entered; forecast = b .forecast; some = b .some; ends = b .ends };
     alike = λ past₁ future₁ past₂ future₂ g cs s₁ s₂ e₁ e₂.
         follows-alike (known m (reading h .formulas) g .steps - 1) (faultStep m (reading h .formulas) g (arguments (known m (reading h .formulas) g .parameters) (samplesFor (known m (reading h .formulas) g .parameters) cs)))
-        (outcome m (reading h .formulas) g cs) future₁ future₂ (Whole g cs) (λ k ys x. x) (λ k y x. x) (whole past₁ future₁ g cs s₁ e₁) (whole past₂ future₂ g cs s₂ e₂);
+        (outcome m (reading h .formulas) g cs) (turns future₁) (turns future₂) (Whole g cs) (λ k ys x. x) (λ k y x. x) (whole past₁ future₁ g cs s₁ e₁) (whole past₂ future₂ g cs s₂ e₂);
     entries = λ past future g x w e. told past future g x w e;
     constant = λ past₁ future₁ past₂ future₂ g x₁ x₂ w₁ w₂ e₁ e₂.
         let u = told past₁ future₁ g x₁ w₁ e₁ in

@@ -1,3 +1,4 @@
+-- The proofs: frames, typing, evaluation, the store and the machine, then histories.
 mod Prefixes
 mod Checking
 mod Lifting

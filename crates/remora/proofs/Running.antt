@@ -13,7 +13,7 @@ use lib.Dec.{eqb, ltb}
 use Rattle.std.proofs.shelf.Tests.{lt-ltb, le-ltb, cases-eq, eq-eqb, ne-eqb}
 use Rattle.remora.specs.Shapes.{Shape, size}
 use Rattle.remora.specs.Algebras.{Sample, Meaning}
-use Rattle.remora.specs.Formulas.{ArrayType, shaped, noType, Formula, Entry, Function, primitive, formula, fold, append, reversal, cells, resultCell, TypedLine, literal, parameter, frame, application, typeOf, lastOr, resultType}
+use Rattle.remora.specs.Formulas.{ArrayType, shaped, noType, Formula, Entry, Function, primitive, formula, fold, append, reversal, cells, resultCell, TypedLine, literal, parameter, frame, application, typeOf, typesOf, lastOr, resultType}
 use Rattle.remora.specs.Evaluation.{Array, arrayOf, noArray, itemsAt, Fault, Outcome, yields, faults, Cells, all, upto, before, collapse, mapCells, cellsAt, evalLine, onward, evalLines}
 use Rattle.remora.specs.Forecasts.{atoms, functionSteps, lineSteps, linesSteps, ifAny, functionRoom, calleeRoom, roomFrom, functionDepth, lineDepth, deepest, entryOf}
 use Rattle.remora.specs.Numbers.{pick, linesOf, known, eval, arguments}
@@ -22,7 +22,7 @@ use Rattle.remora.specs.Calls.{parameterAtoms, parameterPlaces, needs, firstAc
 use Rattle.remora.proofs.Lifting.{size-append, length-part}
 use Rattle.remora.proofs.Sizes.{Lifts, Sound, s-literal, s-parameter, s-frame, s-application, SoundAll, end, then, Fit, LengthO, LengthC, Keeps, cellsAt-fit, evalLine-length, keeps-all, result-is, known-here, known-below, eval-here, eval-below, entryHere, Sounds}
 use Rattle.remora.proofs.Regions.{Same, same-refl, same-trans, same-widen, put-same, put-part, part-same, part-add, Region, region, noRegion, long, read, reads, regions, regionTypes, Below, below-mono, below-snoc, below-at, types-at, types-snoc, reads-same, reads-snoc, reads-at, reads-last, reads-fit, regionOf, layout, behind, region-type, layout-append, layout-length, behind-snoc, behind-le, layout-last, sourcesOf, cells-read, cells-below, cells-types}
-use Rattle.remora.proofs.Bridging.{typesOf, plans-length, place-last, plans-last, layout-types, plan-here, place-here, sources-here, step-here, step-settles}
+use Rattle.remora.proofs.Bridging.{plans-length, place-last, plans-last, layout-types, plan-here, place-here, sources-here, step-here, step-settles}
 
 abbrev pub storeOf : Snapshot → List Sample
 storeOf (at S ts) = S

@@ -107,6 +107,11 @@ typeOf (parameter k t) = t
 typeOf (frame os p t) = t
 typeOf (application f os p t) = t
 
+-- The types of typed lines.
+abbrev pub typesOf : List TypedLine → List ArrayType
+typesOf [] = []
+typesOf (r ∷ rs) = typeOf r ∷ typesOf rs
+
 -- The last of a list, or d if it is empty.
 abbrev pub lastOr : {X : Type 0} → X → List X → X
 lastOr d [] = d

@@ -47,27 +47,24 @@ unread = record { draft = shut; formulas = []; withdrawn = [] }
 abbrev pub drafted : Reading → Draft → Reading
 drafted r d = record { draft = d; formulas = r .formulas; withdrawn = r .withdrawn }
 
+-- What to read off an answer: by a refusal, by a number, by ok, and by any other.
+abbrev pub byAnswer : {Z : Type 0} → Answer → (ℕ → Option ℕ → Z) → (ℕ → Z) → Z → Z → Z
+byAnswer (refused n l) refusal numbered done other = refusal n l
+byAnswer (number k) refusal numbered done other = numbered k
+byAnswer ok refusal numbered done other = done
+byAnswer (states e w) refusal numbered done other = other
+byAnswer goes-on refusal numbered done other = other
+byAnswer is-done refusal numbered done other = other
+byAnswer (fault e g l c) refusal numbered done other = other
+byAnswer (wrote cs) refusal numbered done other = other
+
 -- An accepted open gives a new draft.
 abbrev pub readOpen : Reading → List ArrayType → Answer → Reading
-readOpen r ps (refused n l) = r
-readOpen r ps (number k) = drafted r (opened k ps [])
-readOpen r ps ok = r
-readOpen r ps (states e w) = r
-readOpen r ps goes-on = r
-readOpen r ps is-done = r
-readOpen r ps (fault e g l c) = r
-readOpen r ps (wrote cs) = r
+readOpen r ps a = byAnswer a (λ n l. r) (λ k. drafted r (opened k ps [])) r r
 
 -- An accepted line is added to the draft.
 abbrev pub readLine : Reading → Line → Answer → Reading
-readLine r x (refused n l) = r
-readLine r x (number k) = drafted r (added (r .draft) x)
-readLine r x ok = r
-readLine r x (states e w) = r
-readLine r x goes-on = r
-readLine r x is-done = r
-readLine r x (fault e g l c) = r
-readLine r x (wrote cs) = r
+readLine r x a = byAnswer a (λ n l. r) (λ k. drafted r (added (r .draft) x)) r r
 
 -- A refused enter drops the draft, unless by 3, which names no line.
 abbrev pub readRefused : Reading → ℕ → Option ℕ → Reading
@@ -76,25 +73,11 @@ readRefused r n (Some l) = drafted r shut
 
 -- An accepted enter gives the draft the next number.
 abbrev pub readEnter : Reading → Answer → Reading
-readEnter r (refused n l) = readRefused r n l
-readEnter r (number k) = record { draft = shut; formulas = draftFormula (r .draft) ∷ r .formulas; withdrawn = r .withdrawn }
-readEnter r ok = r
-readEnter r (states e w) = r
-readEnter r goes-on = r
-readEnter r is-done = r
-readEnter r (fault e g l c) = r
-readEnter r (wrote cs) = r
+readEnter r a = byAnswer a (readRefused r) (λ k. record { draft = shut; formulas = draftFormula (r .draft) ∷ r .formulas; withdrawn = r .withdrawn }) r r
 
--- That a call is done, or else nothing new.
+-- A call that is done leaves this, any other answer what was read before.
 abbrev pub readOk : Reading → Reading → Answer → Reading
-readOk r new (refused n l) = r
-readOk r new (number k) = r
-readOk r new ok = new
-readOk r new (states e w) = r
-readOk r new goes-on = r
-readOk r new is-done = r
-readOk r new (fault e g l c) = r
-readOk r new (wrote cs) = r
+readOk r new a = byAnswer a (λ n l. r) (λ k. r) new r
 
 -- One event read.
 abbrev pub readCall : Reading → Call → Answer → Reading
@@ -125,48 +108,59 @@ member g (x ∷ xs) = eqb g x || member g xs
 
 -- ---- the law of a run: what may follow an accepted begin, up to its close
 
+-- What an event is to a run: a step, a begin, a result with the buffer's length, or a close, with its answer; or a call that has nothing to do with runs.
+pub data Turn : Type 0 where
+  stepped : Answer → Turn
+  begun : Answer → Turn
+  read : (room : ℕ) → Answer → Turn
+  closed : Answer → Turn
+  elsewhere : Turn
+
+-- What an event is to a run.
+abbrev pub turn : Event → Turn
+turn (event (open′ ps) a) = elsewhere
+turn (event (line k x) a) = elsewhere
+turn (event (enter k) a) = elsewhere
+turn (event (scrap k) a) = elsewhere
+turn (event (withdraw g) a) = elsewhere
+turn (event (entry g) a) = elsewhere
+turn (event (begin g cs) a) = begun a
+turn (event step′ a) = stepped a
+turn (event (result k) a) = read k a
+turn (event close a) = closed a
+
+-- What events are to a run.
+abbrev pub turns : List Event → List Turn
+turns [] = []
+turns (e ∷ h) = turn e ∷ turns h
+
 -- The run is at work: j steps answer more and the next answers last, then comes what after says; no step is refused before that, and nothing but close cuts the run short.
-abbrev pub Goes : ℕ → Answer → (List Event → Type 0) → List Event → Type 0
+abbrev pub Goes : ℕ → Answer → (List Turn → Type 0) → List Turn → Type 0
 Goes j last after [] = Unit {0}
-Goes zero last after (event step′ a ∷ h) = (a ≡ last) × after h
-Goes (suc j) last after (event step′ a ∷ h) = (a ≡ goes-on) × Goes j last after h
-Goes j last after (event (begin g cs) a ∷ h) = (a ≡ refused 16 None) × Goes j last after h
-Goes j last after (event (result k) a ∷ h) = (a ≡ refused 20 None) × Goes j last after h
-Goes j last after (event close a ∷ h) = a ≡ ok
-Goes j last after (event (open′ ps) a ∷ h) = Goes j last after h
-Goes j last after (event (line k x) a ∷ h) = Goes j last after h
-Goes j last after (event (enter k) a ∷ h) = Goes j last after h
-Goes j last after (event (scrap k) a ∷ h) = Goes j last after h
-Goes j last after (event (withdraw g) a ∷ h) = Goes j last after h
-Goes j last after (event (entry g) a ∷ h) = Goes j last after h
+Goes zero last after (stepped a ∷ h) = (a ≡ last) × after h
+Goes (suc j) last after (stepped a ∷ h) = (a ≡ goes-on) × Goes j last after h
+Goes j last after (begun a ∷ h) = (a ≡ refused 16 None) × Goes j last after h
+Goes j last after (read k a ∷ h) = (a ≡ refused 20 None) × Goes j last after h
+Goes j last after (closed a ∷ h) = a ≡ ok
+Goes j last after (elsewhere ∷ h) = Goes j last after h
 
 -- The run is done and yields these codes: result refuses by 21 alone, for a short buffer, and otherwise writes exactly them.
-abbrev pub Yields : List ℕ → List Event → Type 0
+abbrev pub Yields : List ℕ → List Turn → Type 0
 Yields ys [] = Unit {0}
-Yields ys (event step′ a ∷ h) = (a ≡ refused 19 None) × Yields ys h
-Yields ys (event (begin g cs) a ∷ h) = (a ≡ refused 16 None) × Yields ys h
-Yields ys (event (result k) a ∷ h) = (a ≡ pick (leb (length ys) k) (wrote ys) (refused 21 None)) × Yields ys h
-Yields ys (event close a ∷ h) = a ≡ ok
-Yields ys (event (open′ ps) a ∷ h) = Yields ys h
-Yields ys (event (line k x) a ∷ h) = Yields ys h
-Yields ys (event (enter k) a ∷ h) = Yields ys h
-Yields ys (event (scrap k) a ∷ h) = Yields ys h
-Yields ys (event (withdraw g) a ∷ h) = Yields ys h
-Yields ys (event (entry g) a ∷ h) = Yields ys h
+Yields ys (stepped a ∷ h) = (a ≡ refused 19 None) × Yields ys h
+Yields ys (begun a ∷ h) = (a ≡ refused 16 None) × Yields ys h
+Yields ys (read k a ∷ h) = (a ≡ pick (leb (length ys) k) (wrote ys) (refused 21 None)) × Yields ys h
+Yields ys (closed a ∷ h) = a ≡ ok
+Yields ys (elsewhere ∷ h) = Yields ys h
 
 -- The run is faulted: no step and no result is accepted any more.
-abbrev pub Faulted : List Event → Type 0
+abbrev pub Faulted : List Turn → Type 0
 Faulted [] = Unit {0}
-Faulted (event step′ a ∷ h) = (a ≡ refused 19 None) × Faulted h
-Faulted (event (begin g cs) a ∷ h) = (a ≡ refused 16 None) × Faulted h
-Faulted (event (result k) a ∷ h) = (a ≡ refused 20 None) × Faulted h
-Faulted (event close a ∷ h) = a ≡ ok
-Faulted (event (open′ ps) a ∷ h) = Faulted h
-Faulted (event (line k x) a ∷ h) = Faulted h
-Faulted (event (enter k) a ∷ h) = Faulted h
-Faulted (event (scrap k) a ∷ h) = Faulted h
-Faulted (event (withdraw g) a ∷ h) = Faulted h
-Faulted (event (entry g) a ∷ h) = Faulted h
+Faulted (stepped a ∷ h) = (a ≡ refused 19 None) × Faulted h
+Faulted (begun a ∷ h) = (a ≡ refused 16 None) × Faulted h
+Faulted (read k a ∷ h) = (a ≡ refused 20 None) × Faulted h
+Faulted (closed a ∷ h) = a ≡ ok
+Faulted (elsewhere ∷ h) = Faulted h
 
 -- The algebra itself assigns the fault's cause to the operand codes that evaluation has at its cell, and the cause is not 0.
 pub record Caused (m : Meaning) (x : Fault ℕ) : Type 0 where
@@ -177,7 +171,7 @@ pub record Caused (m : Meaning) (x : Fault ℕ) : Type 0 where
   pub small : x .cause ≤ 255
 
 -- A run of s steps whose formula evaluates to this: an array is yielded after exactly s steps, as many codes as the size of type t, all of its base type; a fault comes after fewer and is the algebra's own.
-abbrev pub EndsAs : Meaning → ℕ → ArrayType → Outcome ℕ → List Event → Type 0
+abbrev pub EndsAs : Meaning → ℕ → ArrayType → Outcome ℕ → List Turn → Type 0
 EndsAs m s t (yields ys) h = Goes (s - 1) is-done (Yields ys) h × (length ys ≡ size (t .shape)) × InSet (m .holds) (t .base) ys
 EndsAs m s t (faults x) h = (j : ℕ) × (j < s) × Goes j (fault (x .cause) (x .formula) (x .line) (x .cell)) Faulted h × Caused m x
 
@@ -186,7 +180,7 @@ pub record RunHolds (m : Meaning) (fs : List Formula) (g : ℕ) (cs : List ℕ) 
   pub entered : g < length fs
   pub forecast : s ≡ known m fs g .steps
   pub some : 1 ≤ s
-  pub ends : EndsAs m s (known m fs g .result) (outcome m fs g cs) h
+  pub ends : EndsAs m s (known m fs g .result) (outcome m fs g cs) (turns h)
 
 -- ---- how a run ended
 
@@ -206,36 +200,26 @@ endStep k is-done same more = ended (suc k) is-done
 endStep k (fault e g l c) same more = ended (suc k) (fault e g l c)
 endStep k (wrote cs) same more = same
 
--- How the run ended that these events follow the begin of, with k steps accepted before.
-abbrev pub endOf : ℕ → List Event → End
+-- How a run ended, with k steps accepted before.
+abbrev pub endOf : ℕ → List Turn → End
 endOf k [] = not-ended
-endOf k (event step′ a ∷ h) = endStep k a (endOf k h) (endOf (suc k) h)
-endOf k (event (begin g cs) a ∷ h) = endOf k h
-endOf k (event (result n) a ∷ h) = endOf k h
-endOf k (event close a ∷ h) = not-ended
-endOf k (event (open′ ps) a ∷ h) = endOf k h
-endOf k (event (line n x) a ∷ h) = endOf k h
-endOf k (event (enter n) a ∷ h) = endOf k h
-endOf k (event (scrap n) a ∷ h) = endOf k h
-endOf k (event (withdraw g) a ∷ h) = endOf k h
-endOf k (event (entry g) a ∷ h) = endOf k h
+endOf k (stepped a ∷ h) = endStep k a (endOf k h) (endOf (suc k) h)
+endOf k (begun a ∷ h) = endOf k h
+endOf k (read n a ∷ h) = endOf k h
+endOf k (closed a ∷ h) = not-ended
+endOf k (elsewhere ∷ h) = endOf k h
 
 -- Some result of the run wrote these codes.
-abbrev pub Wrote : List ℕ → List Event → Type 0
+abbrev pub Wrote : List ℕ → List Turn → Type 0
 Wrote ys [] = ⊥
-Wrote ys (event step′ a ∷ h) = Wrote ys h
-Wrote ys (event (begin g cs) a ∷ h) = Wrote ys h
-Wrote ys (event (result n) a ∷ h) = (a ≡ wrote ys) ⊎ Wrote ys h
-Wrote ys (event close a ∷ h) = ⊥
-Wrote ys (event (open′ ps) a ∷ h) = Wrote ys h
-Wrote ys (event (line n x) a ∷ h) = Wrote ys h
-Wrote ys (event (enter n) a ∷ h) = Wrote ys h
-Wrote ys (event (scrap n) a ∷ h) = Wrote ys h
-Wrote ys (event (withdraw g) a ∷ h) = Wrote ys h
-Wrote ys (event (entry g) a ∷ h) = Wrote ys h
+Wrote ys (stepped a ∷ h) = Wrote ys h
+Wrote ys (begun a ∷ h) = Wrote ys h
+Wrote ys (read n a ∷ h) = (a ≡ wrote ys) ⊎ Wrote ys h
+Wrote ys (closed a ∷ h) = ⊥
+Wrote ys (elsewhere ∷ h) = Wrote ys h
 
 -- Two runs end alike: if both ended, after equally many accepted steps by the same answer, and what they write is the same.
-pub record EndAlike (h₁ h₂ : List Event) : Type 0 where
+pub record EndAlike (h₁ h₂ : List Turn) : Type 0 where
   pub ends : (k₁ k₂ : ℕ) (a₁ a₂ : Answer) → endOf 0 h₁ ≡ ended k₁ a₁ → endOf 0 h₂ ≡ ended k₂ a₂ → (k₁ ≡ k₂) × (a₁ ≡ a₂)
   pub writes : (ys zs : List ℕ) → Wrote ys h₁ → Wrote zs h₂ → ys ≡ zs
 
@@ -263,7 +247,7 @@ pub record Holds (m : Meaning) (h : List Event) : Type 0 where
       → RunHolds m (reading past .formulas) g cs s future
   -- equal runs end equally
   pub alike : (past₁ future₁ past₂ future₂ : List Event) (g : ℕ) (cs : List ℕ) (s₁ s₂ : ℕ) → h ≡ past₁ ++ event (begin g cs) (number s₁) ∷ future₁
-      → h ≡ past₂ ++ event (begin g cs) (number s₂) ∷ future₂ → EndAlike future₁ future₂
+      → h ≡ past₂ ++ event (begin g cs) (number s₂) ∷ future₂ → EndAlike (turns future₁) (turns future₂)
   -- entry states what is known of the formula as it was entered, and its mark
   pub entries : (past future : List Event) (g : ℕ) (e : Entry) (w : Bool) → h ≡ past ++ event (entry g) (states e w) ∷ future
       → (g < length (reading past .formulas)) × (e ≡ known m (reading past .formulas) g) × (w ≡ member g (reading past .withdrawn))

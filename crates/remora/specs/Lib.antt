@@ -1,3 +1,4 @@
+-- The theory, in the order in which to read it: shapes, algebras, lines, typing, questions, evaluation, forecasts, numbers, the step machine, the calls, histories and their law.
 pub mod Shapes
 pub mod Algebras
 pub mod Formulas

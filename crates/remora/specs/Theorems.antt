@@ -7,7 +7,7 @@ use lib.ListN.{length}
 use Rattle.std.specs.declared.option.Option.the-variants.{Some}
 use Rattle.remora.specs.Shapes.{Shape, size, agree, principal, Join}
 use Rattle.remora.specs.Algebras.{Sample, Meaning, Formed}
-use Rattle.remora.specs.Formulas.{ArrayType, Line, Formula, Entry, TypedLine, typeOf}
+use Rattle.remora.specs.Formulas.{ArrayType, Line, Formula, Entry, TypedLine, typesOf}
 use Rattle.remora.specs.Typing.{InSet, Types, TypesAll}
 use Rattle.remora.specs.Questions.{AllYes, firstNo, typed, questions, Verdict, all-typed, refused-at, judge}
 use Rattle.remora.specs.Evaluation.{Outcome, yields, faults}
@@ -29,11 +29,6 @@ QuestionsDecideTyping =
     (m : Meaning) (n : ℕ) (E : ℕ → Entry) (usable : ℕ → Bool) (ps types : List ArrayType) (l : Line)
     → (AllYes (questions m n E usable ps types l) → Types m n E usable ps types l (typed m E ps types l))
     × ((r : TypedLine) → Types m n E usable ps types l r → AllYes (questions m n E usable ps types l) × (r ≡ typed m E ps types l))
-
--- The types of typed lines.
-abbrev pub typesOf : List TypedLine → List ArrayType
-typesOf [] = []
-typesOf (r ∷ rs) = typeOf r ∷ typesOf rs
 
 -- The lowest line with a no: the lines before it are typed, and the number is that of its first no.
 pub record RefusedAt (m : Meaning) (n : ℕ) (E : ℕ → Entry) (usable : ℕ → Bool) (ps types : List ArrayType) (ls : List Line) (q k : ℕ) : Type 0 where
