@@ -7,22 +7,22 @@ use mathlib.Core.List.{List, [], _∷_, _++_, append-assoc}
 use native.Mathlib.Omega.{arith}
 use lib.ListN.{length, getD, set, length-append, length-set}
 use lib.Seq.{getD-set-same, getD-set-other}
-use lib.Dec.{eqb, ltb, leb}
+use lib.Dec.{eqb, ltb}
 use Rattle.std.specs.declared.option.Option.{Option}
 use Rattle.std.specs.declared.option.Option.the-variants.{Some, None}
 use Rattle.std.proofs.shelf.Lists.{getD-append-left, getD-append-right}
-use Rattle.std.proofs.shelf.Tests.{and-parts, ltb-true, eqb-true, eq-eqb, ne-eqb, cases-eq, cases-lt, both-ways, not-true}
+use Rattle.std.proofs.shelf.Tests.{and-parts, ltb-true, eq-eqb, ne-eqb, cases-eq, cases-lt}
 use Rattle.remora.specs.Algebras.{Sample, Meaning}
-use Rattle.remora.specs.Formulas.{ArrayType, Line, Formula, Entry, TypedLine, typeOf, formula}
+use Rattle.remora.specs.Formulas.{ArrayType, Line, Formula, Entry, TypedLine, typeOf}
 use Rattle.remora.specs.Typing.{Names, names-operator, names-formula, names-fold, names-append, names-reverse, Types, t-array, t-var, t-frame, t-app, TypesAll, no-lines, and-line}
-use Rattle.remora.specs.Questions.{Question, AllYes, Verdict, all-typed, refused-at, judge, typedLines}
+use Rattle.remora.specs.Questions.{Question, AllYes, Verdict, all-typed, refused-at, judge}
 use Rattle.remora.specs.Forecasts.{entryOf, withinLimits}
 use Rattle.remora.specs.Numbers.{pick, linesOf, noEntry, known, anyNumber, AllTyped}
-use Rattle.remora.specs.Machine.{Plan, plans, choose, Progress, more, done, faulted, idle, Snapshot, at, step}
-use Rattle.remora.specs.Calls.{Draft, shut, opened, added, slipFits, draftFormula, draftParameters, draftLines, none, Kept, keptAs, marked, noFormula, Run, absent, going, finished, broken, State, empty, entryAt, planAt, usableAt, withDraft, withRun, withFormula, inUse, Call, open′, line, enter, scrap, withdraw, entry, begin, step′, result, close, Answer, refused, number, ok, states, goes-on, is-done, fault, wrote, Reply, reply, asked, refusal, openQuestions, opensDraft, lineQuestions, addsLine, scrapQuestions, dropsDraft, withdrawQuestions, marksFormula, entryQuestions, tellsEntry, storeFits, beginQuestions, beginsRun, resultQuestions, writesResult, closeQuestions, endsRun, progressed, serveVerdict, serveEnter, serveStep, serveResult, serve}
-use Rattle.remora.specs.Histories.{Event, event, Leads, Reading, unread, drafted, byAnswer, readOpen, readLine, readRefused, readEnter, readOk, readCall, readFrom, reading, member}
+use Rattle.remora.specs.Machine.{plans, choose, Progress, more, done, faulted, idle, at, step}
+use Rattle.remora.specs.Calls.{Draft, shut, opened, added, slipFits, draftFormula, draftParameters, draftLines, none, Kept, keptAs, marked, noFormula, Run, absent, going, finished, broken, State, empty, entryAt, planAt, usableAt, withDraft, withRun, withFormula, Call, open′, line, enter, scrap, withdraw, entry, begin, step′, result, close, Answer, refused, number, ok, states, goes-on, is-done, fault, wrote, Reply, asked, refusal, openQuestions, opensDraft, lineQuestions, addsLine, scrapQuestions, dropsDraft, withdrawQuestions, marksFormula, entryQuestions, tellsEntry, storeFits, beginQuestions, beginsRun, resultQuestions, writesResult, closeQuestions, endsRun, progressed, serveVerdict, serveStep, serveResult, serve}
+use Rattle.remora.specs.Histories.{Event, event, Leads, Reading, unread, drafted, byAnswer, readRefused, readEnter, readCall, readFrom, member}
 use Rattle.remora.proofs.Checking.{judge-types, types-judge}
-use Rattle.remora.proofs.Sizes.{known-here, known-below, known-later}
+use Rattle.remora.proofs.Sizes.{known-here, known-below}
 use Rattle.remora.proofs.Running.{planned, planned-here, planned-below}
 
 -- functions that agree at every number are one

@@ -1,24 +1,23 @@
 -- A run never has more than 16 activations, and no call writes outside its parameter atoms and room.
-use Prim.Native.Nat.{ℕ, zero, suc, _+_, _-_, _≤_, _<_}
+use Prim.Native.Nat.{ℕ, _-_, _≤_, _<_}
 use mathlib.Core.Path.{_≡_, refl, sym, ap, _∙_, subst}
 use mathlib.Core.Logic.{_⊎_, inl, inr}
-use mathlib.Core.Bool.{Bool, true, false, _&&_}
-use mathlib.Core.List.{List, [], _∷_, _++_}
+use mathlib.Core.Bool.{true, _&&_}
+use mathlib.Core.List.{List, [], _∷_}
 use native.Mathlib.Omega.{arith}
 use lib.ListN.{length, drop}
-use lib.Dec.{eqb, ltb, leb}
+use lib.Dec.{eqb, leb}
 use Rattle.std.proofs.shelf.Tests.{and-parts, ltb-true, eqb-true, leb-true}
 use Rattle.remora.specs.Algebras.{Sample, Meaning, Formed}
 use Rattle.remora.specs.Formulas.{Formula, Entry}
-use Rattle.remora.specs.Questions.{AllYes}
 use Rattle.remora.specs.Forecasts.{withinLimits}
 use Rattle.remora.specs.Evaluation.{Fault, Outcome, yields, faults}
 use Rattle.remora.specs.Numbers.{known, outcome, AllTyped}
-use Rattle.remora.specs.Machine.{Activation, put, Snapshot, at, Progress, more, done, faulted, step}
-use Rattle.remora.specs.Calls.{Run, absent, going, finished, broken, State, empty, entryAt, planAt, withRun, Call, open′, line, enter, scrap, withdraw, entry, begin, step′, result, close, Answer, number, fault, is-done, goes-on, Reply, reply, refusal, parameterAtoms, codesFit, samplesFor, needs, firstActivation, beginQuestions, beginsRun, resultQuestions, writesResult, closeQuestions, endsRun, progressed, serveStep, serveResult, serve}
-use Rattle.remora.specs.Histories.{Event, event, Leads, Led, Reading, unread, readCall, readFrom, activations, reach, Untouched, EveryRunBounded}
+use Rattle.remora.specs.Machine.{Activation, put, Snapshot, at, more, done, faulted, step}
+use Rattle.remora.specs.Calls.{Run, absent, going, finished, broken, State, empty, entryAt, planAt, withRun, Call, line, begin, step′, result, close, Answer, number, fault, is-done, goes-on, Reply, reply, refusal, parameterAtoms, codesFit, samplesFor, needs, firstActivation, beginQuestions, beginsRun, resultQuestions, writesResult, closeQuestions, endsRun, progressed, serveStep, serveResult, serve}
+use Rattle.remora.specs.Histories.{Event, event, Leads, Reading, unread, readCall, readFrom, activations, reach, Untouched, EveryRunBounded}
 use Rattle.remora.proofs.Regions.{Same, put-same}
-use Rattle.remora.proofs.Running.{storeOf, activationsOf, Plans, Runs, stay, move, Fails, Finishes, goods-all}
+use Rattle.remora.proofs.Running.{storeOf, activationsOf, Plans, Runs, stay, move, goods-all}
 use Rattle.remora.proofs.Sizes.{typed-sounds}
 use Rattle.remora.proofs.Agreeing.{asked-cases, Later, later-refl, later-trans, read-later, Agrees, agrees-empty, event-agrees}
 use Rattle.remora.proofs.Following.{Ok, plans-ok, entry-same, begin-ends, Ending, step-reply, About, steps, begins, results, closes, others, about, length-samples, snapshot-is}
@@ -123,12 +122,6 @@ module _ (m : Meaning) (formed : Formed m) where
   owed-going : (r : Reading) (s : State) (S : List Sample) (g : ℕ) (ts : List Activation) → s .run ≡ going g ts → Agrees m r s → (w : Working r S g ts) → Owed r step′ S (serve m s S step′)
   owed-going r s S g ts u a w = go (w .left) (w .last) (w .runs) (w .ends)
     where
-      fs : List Formula
-      fs = w .formulas
-
-      ok : Plans → Type 0
-      ok = Ok m formed (w .formulas) g (w .entered)
-
       x-is : entryAt s g ≡ known m (w .formulas) g
       x-is = entry-same m formed (w .formulas) g (w .entered) r s a (w .later)
 

@@ -1,29 +1,28 @@
 -- From the plan's numbers to typed lines: what a step settles is what evaluation of the line gives on the arrays in the store.
-use Prim.Native.Nat.{ℕ, zero, suc, _+_, _-_, _*_, _/_, _≤_, _<_}
+use Prim.Native.Nat.{ℕ, zero, suc, _+_, _-_, _*_, _≤_, _<_}
 use mathlib.Core.Path.{_≡_, refl, sym, ap, _∙_, subst}
-use mathlib.Core.Bool.{Bool, true, false, cond}
-use mathlib.Core.List.{List, [], _∷_, _++_, map, reverse, append-nil, append-assoc}
+use mathlib.Core.Bool.{true, false}
+use mathlib.Core.List.{List, [], _∷_, _++_, append-nil, append-assoc}
 use native.Mathlib.Omega.{arith}
-use native.Mathlib.Nat.{add-zero, zero-add, add-assoc}
+use native.Mathlib.Nat.{add-zero, add-assoc}
 use lib.ListN.{length, getD, take, drop, length-append}
 use lib.Seq.{drop-cons, drop-at}
 use lib.Dec.{ltb}
 use Rattle.std.specs.declared.option.Option.{Option}
 use Rattle.std.specs.declared.option.Option.the-variants.{Some, None}
 use Rattle.std.specs.Options.{isSome}
-use Rattle.std.proofs.shelf.Lists.{getD-append-left, getD-append-right}
-use Rattle.std.proofs.shelf.Tests.{lt-ltb, le-ltb, both-ways}
+use Rattle.std.proofs.shelf.Lists.{getD-append-left}
+use Rattle.std.proofs.shelf.Tests.{lt-ltb, both-ways}
 use Rattle.remora.specs.Shapes.{Shape, size}
-use Rattle.remora.specs.Algebras.{Sample, sampleOf, Meaning}
-use Rattle.remora.specs.Formulas.{ArrayType, shaped, noType, Kind, a-literal, a-parameter, a-frame, an-operator, a-call, a-fold, an-append, a-reverse, no-kind, Entry, Function, primitive, formula, fold, append, reversal, scalars, cells, TypedLine, literal, parameter, frame, application, typeOf, typesOf, lastOr}
+use Rattle.remora.specs.Algebras.{Sample, Meaning}
+use Rattle.remora.specs.Formulas.{ArrayType, shaped, noType, Kind, Entry, primitive, formula, fold, append, reversal, scalars, TypedLine, literal, parameter, frame, application, typeOf, typesOf, lastOr}
 use Rattle.remora.specs.Typing.{Alike, no-operand, operand}
 use Rattle.remora.specs.Questions.{typeAt}
-use Rattle.remora.specs.Evaluation.{split, concat, Array, arrayOf, noArray, itemsAt, Fault, Outcome, yields, Cells, all, upto, Attempt, value, andThen, Operations, repeats, cellsAt, firsts, folded, told, applyCell, collapse, mapCells, joined, evalLine}
+use Rattle.remora.specs.Evaluation.{split, Array, itemsAt, Outcome, Cells, all, value, andThen, repeats, cellsAt, firsts, folded, told, applyCell, mapCells, joined, evalLine}
 use Rattle.remora.specs.Forecasts.{atoms}
-use Rattle.remora.specs.Machine.{Operand, Plan, noPlan, operandsOf, frameOperands, kindFor, numberOf, itemsOf, itemOf, planOf, plans, part, put, Activation, activation, isParameter, placeOf, Source, sources, noSource, cellPlace, cellPlaces, noSample, unitSample, onSamples, gathered, operatorCell, unitOf, unitPlaces, foldSamples, foldCell, appendCell, reverseCell, frameCells, settled, Snapshot, at, Progress, more, choose, settle, return, stepLine, step}
-use Rattle.remora.proofs.Lifting.{size-append, pos-right, repeats-is}
-use Rattle.remora.proofs.Sizes.{Lifts, none, one, FunctionFits, Sound, s-literal, s-parameter, s-frame, s-application, SoundAll, end, then}
-use Rattle.remora.proofs.Regions.{Region, region, noRegion, long, read, reads, regions, regionTypes, Below, below-at, types-at, types-length, reads-at, reads-length, regions-place, regionOf, layout, behind, region-type, layout-append, layout-length, behind-add, sourceOf, sourcesOf, cell-below, cells-read}
+use Rattle.remora.specs.Machine.{Plan, noPlan, operandsOf, frameOperands, planOf, plans, part, Activation, activation, isParameter, placeOf, Source, sources, noSource, cellPlace, cellPlaces, noSample, unitSample, onSamples, gathered, operatorCell, unitPlaces, foldSamples, foldCell, appendCell, reverseCell, frameCells, settled, at, choose, settle, stepLine, step}
+use Rattle.remora.proofs.Sizes.{Lifts, none, one, FunctionFits, Sound, s-parameter, s-frame, s-application, SoundAll, then}
+use Rattle.remora.proofs.Regions.{Region, noRegion, reads, regions, regionTypes, Below, below-at, types-at, types-length, reads-at, reads-length, regions-place, regionOf, layout, behind, region-type, layout-append, layout-length, behind-add, sourceOf, sourcesOf, cell-below, cells-read}
 
 -- ---- plans
 
@@ -129,9 +128,6 @@ lifts-sources m E b ps Q L types p ws os e h (one {w = w} {ws = ws′} {o = o} {
 
 module _ (m : Meaning) (n : ℕ) (E : ℕ → Entry) (V : ℕ → List (Array Sample) → Outcome Sample) (g l b : ℕ) (ps : List ℕ) (args : List (Array Sample)) (S : List Sample) (q : ℕ)
     (Q : List Plan) (L : List Region) (low : Below q L) (room : q ≤ length S) (here : l ≡ length L) (places : (o : ℕ) → o < length L → placeOf b ps (getD Q o noPlan) ≡ getD L o noRegion .place) where
-  env : List (Array Sample)
-  env = reads S L
-
   line-is : l ≡ length (reads S L)
   line-is = here ∙ sym (reads-length S L)
 
@@ -223,9 +219,6 @@ module _ (m : Meaning) (n : ℕ) (E : ℕ → Entry) (V : ℕ → List (Array Sa
       go (i ∷ j ∷ js) (one f r′ i′ u′ v x) = elim x [ ]
   settles params types off (application (append b′ j k d) os p t) e (s-application fits ok u) np nc = go os ok
     where
-      ws : List ArrayType
-      ws = shaped b′ (j ∷ d) ∷ shaped b′ (k ∷ d) ∷ []
-
       go : (js : List ℕ) → Lifts types p (shaped b′ (j ∷ d) ∷ shaped b′ (k ∷ d) ∷ []) js
           → mapCells (appendCell (getD (sources Q b ps (operandsOf types p (shaped b′ (j ∷ d) ∷ shaped b′ (k ∷ d) ∷ []) js)) 0 noSource) (getD (sources Q b ps (operandsOf types p (shaped b′ (j ∷ d) ∷ shaped b′ (k ∷ d) ∷ []) js)) 1 noSource) S) 0 (size p)
           ≡ mapCells (λ c. applyCell (onSamples m) V g (length (reads S L)) c (append b′ j k d) (cellsAt (reads S L) p c (shaped b′ (j ∷ d) ∷ shaped b′ (k ∷ d) ∷ []) js)) 0 (size p)

@@ -1,13 +1,13 @@
 -- The questions of enter are all answered by yes exactly when the typing relation gives the line a type, and it is the same type.
-use Prim.Native.Nat.{ℕ, zero, suc, _+_, _-_, _≤_, _<_}
+use Prim.Native.Nat.{ℕ, suc, _+_, _-_}
 use mathlib.Core.Path.{_≡_, refl, sym, ap, _∙_, subst}
 use mathlib.Core.Logic.{_⊎_, inl, inr}
-use mathlib.Core.Bool.{Bool, true, false, _&&_, _||_, not}
+use mathlib.Core.Bool.{Bool, true, false, _||_, not}
 use mathlib.Core.List.{List, [], _∷_, _++_}
 use native.Mathlib.Omega.{arith}
 use lib.ListN.{length, getD, take, drop, take-append-drop, length-append}
 use lib.Seq.{take-at, drop-at, length-take-le}
-use lib.Dec.{eqb, ltb, leb}
+use lib.Dec.{eqb, ltb}
 use Rattle.std.specs.declared.option.Option.{Option}
 use Rattle.std.specs.declared.option.Option.the-variants.{Some, None}
 use Rattle.std.specs.Options.{isSome}
@@ -16,7 +16,7 @@ use Rattle.remora.specs.Shapes.{Shape, size, allowed, same, ends, frameOf, agr
 use Rattle.remora.specs.Algebras.{Meaning}
 use Rattle.remora.specs.Formulas.{ArrayType, shaped, noType, Line, Kind, a-literal, a-parameter, a-frame, an-operator, a-call, a-fold, an-append, a-reverse, no-kind, kindOf, Entry, Function, primitive, formula, fold, append, reversal, scalars, cells, resultCell, TypedLine, literal, parameter, frame, application, typeOf}
 use Rattle.remora.specs.Typing.{InSet, Alike, no-operand, operand, Operands, no-operands, and-operand, Names, names-operator, names-formula, names-fold, names-append, names-reverse, Types, t-array, t-var, t-frame, t-app, TypesAll, no-lines, and-line}
-use Rattle.remora.specs.Questions.{Question, AllYes, orElse, firstNo, typeAt, earlier, basesFit, cellsFit, frames, inSet, sameBase, sameShape, foldable, firstAxis, hasAxis, firstBase, secondCell, functionOf, principalFrame, applied, typedAs, typed, operandQuestions, shapeQuestion, questionsOf, questions, Verdict, all-typed, refused-at, before, unless, judge, typedLines}
+use Rattle.remora.specs.Questions.{Question, AllYes, orElse, firstNo, typeAt, earlier, basesFit, cellsFit, frames, inSet, sameBase, sameShape, foldable, firstAxis, hasAxis, firstBase, secondCell, functionOf, principalFrame, applied, typedAs, typed, questionsOf, questions, Verdict, all-typed, refused-at, before, unless, judge, typedLines}
 use Rattle.remora.proofs.Prefixes.{same-equal, same-self, principal-join, join-principal, ends-split, frame-is, cell-is, ends-append}
 
 -- ---- questions and their first no

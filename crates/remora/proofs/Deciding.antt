@@ -1,7 +1,7 @@
 -- The theorems on typing, evaluation and the course of histories.
-use Prim.Native.Nat.{ℕ, zero, suc, _+_, _<_}
+use Prim.Native.Nat.{ℕ, suc, _+_}
 use mathlib.Core.Path.{_≡_, refl, sym, ap, _∙_, subst}
-use mathlib.Core.Bool.{Bool, true}
+use mathlib.Core.Bool.{Bool}
 use mathlib.Core.List.{List, [], _∷_, _++_, append-nil, append-assoc}
 use native.Mathlib.Omega.{arith}
 use native.Mathlib.Nat.{add-zero}
@@ -10,16 +10,16 @@ use lib.ListN.{length, length-append}
 use Rattle.std.specs.declared.option.Option.{Option}
 use Rattle.std.specs.declared.option.Option.the-variants.{Some, None}
 use Rattle.remora.specs.Shapes.{size}
-use Rattle.remora.specs.Algebras.{Sample, Meaning, Formed}
-use Rattle.remora.specs.Formulas.{ArrayType, Line, Formula, Entry, TypedLine, typeOf, typesOf}
-use Rattle.remora.specs.Typing.{TypesAll, no-lines, and-line}
+use Rattle.remora.specs.Algebras.{Sample, Meaning}
+use Rattle.remora.specs.Formulas.{ArrayType, Line, Entry, TypedLine, typeOf, typesOf}
+use Rattle.remora.specs.Typing.{no-lines, and-line}
 use Rattle.remora.specs.Questions.{firstNo, typed, questions, Verdict, all-typed, refused-at, before, unless, judge}
-use Rattle.remora.specs.Evaluation.{Array, Outcome, yields, faults, onCodes}
+use Rattle.remora.specs.Evaluation.{Outcome, yields, faults, onCodes}
 use Rattle.remora.specs.Numbers.{known, eval, arguments, outcome}
 use Rattle.remora.specs.Machine.{onSamples}
 use Rattle.remora.specs.Calls.{State, Call, serve}
 use Rattle.remora.specs.Histories.{Event, event, Leads}
-use Rattle.remora.specs.Theorems.{PrincipalFrameIsJoin, QuestionsDecideTyping, RefusedAt, Says, VerdictDecidesTyping, OfType, TypedFormulasAreSound, HistoriesGoOn}
+use Rattle.remora.specs.Theorems.{PrincipalFrameIsJoin, QuestionsDecideTyping, Says, VerdictDecidesTyping, OfType, TypedFormulasAreSound, HistoriesGoOn}
 use Rattle.remora.proofs.Prefixes.{principal-join, join-principal}
 use Rattle.remora.proofs.Checking.{firstNo-none, questions-type, type-questions, types-judge}
 use Rattle.remora.proofs.Sizes.{Fit, LengthO, typed-sounds, keeps-all}

@@ -1,31 +1,29 @@
 -- A run within a history: what the calls answer from its begin to its close.
-use Prim.Native.Nat.{ℕ, zero, suc, _+_, _-_, _≤_, _<_}
+use Prim.Native.Nat.{ℕ, _+_, _-_, _≤_, _<_}
 use mathlib.Core.Path.{_≡_, refl, sym, ap, _∙_, subst}
 use mathlib.Core.Bool.{Bool, true, false, _&&_, not}
 use mathlib.Core.List.{List, [], _∷_, _++_, map}
 use native.Mathlib.Omega.{arith}
 use lib.ListN.{length, take, drop, length-append, length-drop}
 use lib.Seq.{take-at, drop-at, length-take-le}
-use lib.Dec.{eqb, ltb, leb}
-use Rattle.std.specs.declared.option.Option.{Option}
-use Rattle.std.specs.declared.option.Option.the-variants.{Some, None}
+use lib.Dec.{ltb, leb}
+use Rattle.std.specs.declared.option.Option.the-variants.{None}
 use Rattle.std.proofs.shelf.Lists.{length-map}
 use Rattle.std.proofs.shelf.Tests.{and-parts, le-leb}
 use Rattle.remora.specs.Shapes.{size}
 use Rattle.remora.specs.Algebras.{Sample, sampleOf, codesOf, Meaning, Formed}
 use Rattle.remora.specs.Formulas.{ArrayType, Line, Formula, Entry}
 use Rattle.remora.specs.Typing.{InSet}
-use Rattle.remora.specs.Questions.{inSet, Verdict, all-typed, refused-at, judge}
+use Rattle.remora.specs.Questions.{inSet, Verdict, all-typed, refused-at}
 use Rattle.remora.specs.Forecasts.{entryOf, withinLimits}
-use Rattle.remora.specs.Evaluation.{Array, arrayOf, Fault, Outcome, yields, faults, onCodes}
+use Rattle.remora.specs.Evaluation.{Array, Fault, Outcome, yields, faults, onCodes}
 use Rattle.remora.specs.Numbers.{pick, known, eval, arguments, outcome, AllTyped}
-use Rattle.remora.specs.Machine.{part, put, Activation, onSamples, Snapshot, at, Progress, more, done, faulted, idle, choose, step}
-use Rattle.remora.specs.Calls.{Draft, slipFits, draftFormula, draftParameters, draftLines, none, Run, absent, going, finished, broken, State, entryAt, planAt, usableAt, withRun, Call, open′, line, enter, scrap, withdraw, entry, begin, step′, result, close, Answer, refused, number, ok, goes-on, is-done, fault, wrote, Reply, reply, asked, refusal, openQuestions, opensDraft, lineQuestions, addsLine, scrapQuestions, dropsDraft, withdrawQuestions, marksFormula, entryQuestions, tellsEntry, parameterAtoms, codesFit, samplesFor, needs, firstActivation, noRun, storeFits, beginQuestions, beginsRun, resultQuestions, writesResult, closeQuestions, endsRun, progressed, serveVerdict, serveStep, serveResult, serve}
+use Rattle.remora.specs.Machine.{part, put, Activation, onSamples, Snapshot, at, more, faulted, choose, step}
+use Rattle.remora.specs.Calls.{slipFits, draftFormula, draftLines, none, Run, going, finished, broken, State, entryAt, planAt, withRun, Call, open′, line, enter, scrap, withdraw, entry, begin, step′, result, close, Answer, refused, goes-on, is-done, fault, wrote, Reply, reply, refusal, openQuestions, opensDraft, lineQuestions, addsLine, scrapQuestions, dropsDraft, withdrawQuestions, marksFormula, entryQuestions, tellsEntry, parameterAtoms, codesFit, samplesFor, needs, firstActivation, noRun, storeFits, writesResult, endsRun, progressed, serveVerdict, serveStep, serveResult, serve}
 use Rattle.remora.specs.Histories.{Event, event, Leads, Reading, readCall, Turn, elsewhere, turn, turns, Goes, Yields, Faulted, Caused}
 use Rattle.remora.proofs.Checking.{in-set}
 use Rattle.remora.proofs.Sizes.{Fit, LengthO, Sounds, typed-sounds, keeps-all, known-later}
-use Rattle.remora.proofs.Simulation.{Right, mapArray, mapArrays, onFault, own-caused, SimO, Sims, sims-all}
-use Rattle.remora.proofs.Regions.{Same}
+use Rattle.remora.proofs.Simulation.{Right, mapArrays, onFault, own-caused, SimO, sims-all}
 use Rattle.remora.proofs.Running.{storeOf, activationsOf, Plans, Runs, stay, move, Fails, Good, planned, planned-below, goods-all, faultStep, Finishes, Story, run-from}
 use Rattle.remora.proofs.Agreeing.{choose-cases, asked-cases, Later, later-trans, read-later, Agrees, rerun, event-agrees}
 

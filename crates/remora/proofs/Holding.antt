@@ -1,7 +1,7 @@
 -- Every history holds that a state and store were led to by.
 use Prim.Native.Nat.{ℕ, zero, suc, _+_, _-_, _≤_, _<_}
 use mathlib.Core.Path.{_≡_, refl, sym, ap, _∙_, subst}
-use mathlib.Core.Logic.{_⊎_, inl, inr}
+use mathlib.Core.Logic.{inl, inr}
 use mathlib.Core.Bool.{Bool, true, false, _&&_, not}
 use mathlib.Core.List.{List, [], _∷_, _++_}
 use native.Mathlib.Omega.{arith}
@@ -9,21 +9,19 @@ use lib.ListN.{length}
 use lib.Dec.{eqb, ltb, leb}
 use Rattle.std.specs.declared.option.Option.{Option}
 use Rattle.std.specs.declared.option.Option.the-variants.{Some, None}
-use Rattle.std.proofs.shelf.Tests.{and-parts, ltb-true, eqb-true, leb-true, eq-eqb, lt-ltb, both-ways}
-use Rattle.remora.specs.Shapes.{size}
+use Rattle.std.proofs.shelf.Tests.{and-parts, ltb-true, eqb-true, leb-true, eq-eqb, lt-ltb}
 use Rattle.remora.specs.Algebras.{Sample, Meaning, Formed}
 use Rattle.remora.specs.Formulas.{ArrayType, Line, Formula, Entry, TypedLine}
-use Rattle.remora.specs.Typing.{TypesAll}
 use Rattle.remora.specs.Questions.{Question, AllYes, Verdict, all-typed, refused-at, judge}
 use Rattle.remora.specs.Forecasts.{entryOf, withinLimits}
-use Rattle.remora.specs.Evaluation.{Array, Fault, Outcome, yields, faults, onCodes}
-use Rattle.remora.specs.Numbers.{pick, linesOf, known, eval, arguments, outcome}
-use Rattle.remora.specs.Machine.{Snapshot, at, Activation, put, choose}
-use Rattle.remora.specs.Calls.{Draft, shut, opened, slipFits, draftFormula, draftParameters, draftLines, none, noFormula, Run, going, State, empty, entryAt, usableAt, withDraft, withRun, Call, open′, line, enter, scrap, withdraw, entry, begin, step′, result, close, Answer, refused, number, ok, states, goes-on, is-done, fault, wrote, Reply, reply, asked, refusal, entryQuestions, tellsEntry, parameterAtoms, codesFit, samplesFor, needs, firstActivation, storeFits, beginQuestions, beginsRun, serveVerdict, serve}
-use Rattle.remora.specs.Histories.{Event, event, Leads, Led, Reading, unread, readCall, readFrom, reading, member, Turn, stepped, begun, read, closed, elsewhere, turns, Goes, Yields, Faulted, EndsAs, RunHolds, End, not-ended, ended, endStep, endOf, Wrote, EndAlike, Enterable, EnteredExactly, Holds, EveryHistoryHolds}
+use Rattle.remora.specs.Evaluation.{Fault, Outcome, yields, faults, onCodes}
+use Rattle.remora.specs.Numbers.{pick, known, eval, arguments, outcome}
+use Rattle.remora.specs.Machine.{Snapshot, at, put, choose}
+use Rattle.remora.specs.Calls.{Draft, shut, opened, slipFits, draftFormula, draftParameters, draftLines, none, noFormula, going, State, empty, entryAt, usableAt, withDraft, withRun, line, enter, entry, begin, result, Answer, refused, number, states, is-done, fault, wrote, Reply, reply, asked, refusal, entryQuestions, tellsEntry, parameterAtoms, codesFit, samplesFor, needs, firstActivation, beginQuestions, beginsRun, serveVerdict, serve}
+use Rattle.remora.specs.Histories.{Event, event, Leads, Led, Reading, unread, reading, member, Turn, stepped, begun, read, closed, elsewhere, turns, Goes, Yields, Faulted, EndsAs, End, ended, endStep, endOf, Wrote, EndAlike, Enterable, Holds, EveryHistoryHolds}
 use Rattle.remora.proofs.Checking.{judge-types, types-judge}
 use Rattle.remora.proofs.Sizes.{known-here, known-later, eval-later}
-use Rattle.remora.proofs.Regions.{Same, put-same}
+use Rattle.remora.proofs.Regions.{put-same}
 use Rattle.remora.proofs.Running.{faultStep, faultStep-later}
 use Rattle.remora.proofs.Agreeing.{everywhere, choose-cases, Later, later-refl, reads-later, read-append, Agrees, agrees-empty, rerun, judged-alike, leads-agrees}
 use Rattle.remora.proofs.Following.{begin-ends, Ending, Follows, begun-follows, length-samples}
@@ -119,9 +117,6 @@ nonempty [] h = absurd (h refl)
 nonempty (l ∷ ls) h = refl
 
 module _ (m : Meaning) (r : Reading) (s : State) (S : List Sample) (agrees : Agrees m r s) (k : ℕ) (ps : List ArrayType) (ls : List Line) (draft-is : r .draft ≡ opened k ps ls) (some : ls ≡ [] → ⊥) where
-  f : Formula
-  f = record { parameters = ps; lines = ls }
-
   abbrev live : ℕ → Bool
   live g = not (member g (r .withdrawn))
 

@@ -1,13 +1,13 @@
 -- The prefix order: its tests say what they should, and the principal frame of frames that agree is their join.
-use Prim.Native.Nat.{ℕ, _+_, _-_, _≤_, _<_}
+use Prim.Native.Nat.{ℕ, _+_, _-_, _≤_}
 use mathlib.Core.Path.{_≡_, refl, sym, ap, _∙_}
 use mathlib.Core.Logic.{_⊎_, inl, inr}
-use mathlib.Core.Bool.{Bool, true, false, _&&_, _||_}
+use mathlib.Core.Bool.{Bool, true, false, _||_}
 use mathlib.Core.List.{List, [], _∷_, _++_, append-nil}
 use native.Mathlib.Omega.{arith}
 use lib.ListN.{length, take, drop, take-append-drop, length-append}
 use lib.Seq.{take-at, drop-at}
-use lib.Dec.{eqb, ltb, leb}
+use lib.Dec.{eqb, ltb}
 use Rattle.std.proofs.shelf.Tests.{and-parts, and-from, or-cases, eqb-true, ltb-true, ltb-false, eq-eqb, le-leb, both-ways}
 use Rattle.remora.specs.Shapes.{Shape, Prefix, same, begins, ends, frameOf, comparable, agreeWith, agree, longer, principal, Bounds, Join}
 

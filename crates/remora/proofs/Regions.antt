@@ -1,9 +1,9 @@
 -- Reading and writing the flat store; where the lines of an activation lie.
 use Prim.Native.Nat.{ℕ, zero, suc, _+_, _-_, _*_, _/_, _≤_, _<_}
-use mathlib.Core.Path.{_≡_, refl, sym, ap, _∙_, subst}
+use mathlib.Core.Path.{_≡_, refl, sym, ap, _∙_}
 use mathlib.Core.List.{List, [], _∷_, _++_, append-assoc}
 use native.Mathlib.Omega.{arith}
-use native.Mathlib.Nat.{add-zero, add-assoc}
+use native.Mathlib.Nat.{add-assoc}
 use lib.ListN.{length, getD, take, drop, length-append, length-drop}
 use lib.Seq.{take-at, drop-at, drop-drop, take-take, length-take-le, take-append-le, take-add}
 use Rattle.std.proofs.shelf.Lists.{drop-take}
@@ -12,7 +12,7 @@ use Rattle.remora.specs.Formulas.{ArrayType, shaped, noType, TypedLine, litera
 use Rattle.remora.specs.Evaluation.{Array, arrayOf, noArray, repeats, cellAt, cellsAt}
 use Rattle.remora.specs.Forecasts.{atoms}
 use Rattle.remora.specs.Machine.{part, put, Source, cellPlace, cellPlaces}
-use Rattle.remora.proofs.Lifting.{length-part, lift-at, cell-within, repeats-is, size-append, pos-right}
+use Rattle.remora.proofs.Lifting.{length-part, lift-at, cell-within, repeats-is}
 use Rattle.remora.proofs.Sizes.{Fit, Lifts, none, one}
 
 -- ---- stores that differ only in a part

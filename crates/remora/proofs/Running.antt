@@ -1,27 +1,27 @@
 -- The machine ends as evaluation does: at the forecast step, within its room, and with no more activations than its depth.
-use Prim.Native.Nat.{ℕ, zero, suc, _+_, _-_, _*_, _/_, _≤_, _<_, max}
+use Prim.Native.Nat.{ℕ, zero, suc, _+_, _-_, _*_, _≤_, _<_}
 use mathlib.Core.Path.{_≡_, refl, sym, ap, _∙_, subst}
 use mathlib.Core.Logic.{_⊎_, inl, inr}
-use mathlib.Core.Bool.{Bool, true, false}
+use mathlib.Core.Bool.{false}
 use mathlib.Core.List.{List, [], _∷_, _++_, append-assoc, append-nil}
 use native.Mathlib.Omega.{arith}
 use native.Mathlib.Nat.{add-zero, zero-add, suc-add, suc-mul, zero-mul, mul-le-mul-right}
 use native.Mathlib.Numerals.{add-one}
-use lib.ListN.{length, getD, take, drop, length-append, length-drop}
+use lib.ListN.{length, getD, drop, length-append, length-drop}
 use lib.Seq.{take-append-le, drop-append-le, drop-drop}
-use lib.Dec.{eqb, ltb}
+use lib.Dec.{eqb}
 use Rattle.std.proofs.shelf.Tests.{lt-ltb, le-ltb, cases-eq, eq-eqb, ne-eqb}
 use Rattle.remora.specs.Shapes.{Shape, size}
 use Rattle.remora.specs.Algebras.{Sample, Meaning}
-use Rattle.remora.specs.Formulas.{ArrayType, shaped, noType, Formula, Entry, Function, primitive, formula, fold, append, reversal, cells, resultCell, TypedLine, literal, parameter, frame, application, typeOf, typesOf, lastOr, resultType}
-use Rattle.remora.specs.Evaluation.{Array, arrayOf, noArray, itemsAt, Fault, Outcome, yields, faults, Cells, all, upto, before, collapse, mapCells, cellsAt, evalLine, onward, evalLines}
-use Rattle.remora.specs.Forecasts.{atoms, functionSteps, lineSteps, linesSteps, ifAny, functionRoom, calleeRoom, roomFrom, functionDepth, lineDepth, deepest, entryOf}
+use Rattle.remora.specs.Formulas.{ArrayType, shaped, noType, Formula, Entry, primitive, formula, fold, append, reversal, TypedLine, literal, parameter, frame, application, typeOf, typesOf, lastOr, resultType}
+use Rattle.remora.specs.Evaluation.{Array, arrayOf, noArray, Fault, Outcome, yields, faults, Cells, all, upto, before, collapse, mapCells, cellsAt, evalLine, onward, evalLines}
+use Rattle.remora.specs.Forecasts.{atoms, lineSteps, linesSteps, ifAny, calleeRoom, roomFrom, lineDepth, deepest}
 use Rattle.remora.specs.Numbers.{pick, linesOf, known, eval, arguments}
-use Rattle.remora.specs.Machine.{Plan, noPlan, planOf, plans, part, put, Activation, activation, isParameter, placeOf, Source, sources, cellPlaces, onSamples, Snapshot, at, Progress, more, done, faulted, idle, choose, settle, return, stepLine, step}
+use Rattle.remora.specs.Machine.{Plan, noPlan, planOf, plans, part, put, Activation, activation, isParameter, placeOf, sources, cellPlaces, onSamples, Snapshot, at, more, done, faulted, choose, settle, return, stepLine, step}
 use Rattle.remora.specs.Calls.{parameterAtoms, parameterPlaces, needs, firstActivation}
-use Rattle.remora.proofs.Lifting.{size-append, length-part}
-use Rattle.remora.proofs.Sizes.{Lifts, Sound, s-literal, s-parameter, s-frame, s-application, SoundAll, end, then, Fit, LengthO, LengthC, Keeps, cellsAt-fit, evalLine-length, keeps-all, result-is, known-here, known-below, eval-here, eval-below, entryHere, Sounds}
-use Rattle.remora.proofs.Regions.{Same, same-refl, same-trans, same-widen, put-same, put-part, part-same, part-add, Region, region, noRegion, long, read, reads, regions, regionTypes, Below, below-mono, below-snoc, below-at, types-at, types-snoc, reads-same, reads-snoc, reads-at, reads-last, reads-fit, regionOf, layout, behind, region-type, layout-append, layout-length, behind-snoc, behind-le, layout-last, sourcesOf, cells-read, cells-below, cells-types}
+use Rattle.remora.proofs.Lifting.{size-append}
+use Rattle.remora.proofs.Sizes.{Lifts, Sound, s-parameter, s-application, SoundAll, then, Fit, LengthO, LengthC, Keeps, cellsAt-fit, evalLine-length, keeps-all, known-here, known-below, eval-here, eval-below, entryHere, Sounds}
+use Rattle.remora.proofs.Regions.{Same, same-refl, same-trans, same-widen, put-same, put-part, part-same, part-add, Region, region, noRegion, long, reads, regions, regionTypes, Below, below-mono, below-snoc, below-at, types-at, reads-same, reads-snoc, reads-at, reads-last, reads-fit, regionOf, layout, behind, region-type, layout-append, behind-snoc, behind-le, layout-last, sourcesOf, cells-read, cells-below, cells-types}
 use Rattle.remora.proofs.Bridging.{plans-length, place-last, plans-last, layout-types, plan-here, place-here, sources-here, step-here, step-settles}
 
 abbrev pub storeOf : Snapshot → List Sample

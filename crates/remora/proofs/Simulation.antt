@@ -1,28 +1,26 @@
 -- Evaluation on samples is evaluation on codes; every code is of its base type, and every cause is the algebra's own.
-use Prim.Native.Nat.{ℕ, zero, suc, _+_, _-_, _*_, _/_, _≤_, _<_}
+use Prim.Native.Nat.{ℕ, zero, suc, _+_, _-_, _≤_, _<_}
 use mathlib.Core.Path.{_≡_, refl, sym, ap, _∙_, subst}
 use mathlib.Core.Logic.{_⊎_, inl, inr}
-use mathlib.Core.Bool.{Bool, true, false, cond, _&&_}
+use mathlib.Core.Bool.{Bool, true, false}
 use mathlib.Core.List.{List, [], _∷_, _++_, map, reverse}
 use native.Mathlib.Omega.{arith}
 use lib.ListN.{length, getD, take, drop, replicate}
-use lib.Dec.{eqb, ltb}
 use Rattle.std.specs.declared.option.Option.{Option}
 use Rattle.std.specs.declared.option.Option.the-variants.{Some, None}
 use Rattle.std.specs.Options.{isSome}
 use Rattle.std.proofs.shelf.Lists.{map-append, map-id, take-map, drop-map, reverse-append}
 use Rattle.std.proofs.shelf.Tests.{cases-eq, and-from, eq-eqb, lt-ltb, both-ways}
 use Rattle.remora.specs.Shapes.{Shape, size, frameOf}
-use Rattle.remora.specs.Algebras.{Sample, sampleOf, Assigned, gives, fails, Operator, Meaning, allHeld, Legal, UnitFits, Formed, Applied, ofAssigned, ofBases, codesOf, applied}
+use Rattle.remora.specs.Algebras.{Sample, sampleOf, Assigned, gives, fails, Meaning, allHeld, Legal, UnitFits, Formed, ofAssigned, ofBases, codesOf, applied}
 use Rattle.remora.specs.Algebras as algebras
 use Rattle.remora.specs.Formulas.{ArrayType, shaped, noType, Formula, Entry, Function, primitive, formula, fold, append, reversal, scalars, cells, resultCell, TypedLine, literal, parameter, frame, application, typeOf, lastOr}
 use Rattle.remora.specs.Typing.{InSet, Alike, no-operand, operand}
-use Rattle.remora.specs.Evaluation.{split, rep, concat, Array, arrayOf, noArray, itemsAt, Fault, Outcome, yields, faults, Cells, all, upto, Attempt, value, failed, andThen, Operations, attempted, unitCode, onCodes, repeats, lift, cellAt, cellsAt, firsts, combined, foldFrom, folded, told, applyCell, before, collapse, mapCells, joined, evalLine, onward, evalLines}
+use Rattle.remora.specs.Evaluation.{split, rep, concat, Array, arrayOf, noArray, itemsAt, Fault, Outcome, yields, faults, Cells, all, upto, Attempt, value, failed, andThen, Operations, attempted, unitCode, onCodes, repeats, lift, cellAt, cellsAt, firsts, combined, foldFrom, told, applyCell, collapse, mapCells, joined, evalLine, onward, evalLines}
 use Rattle.remora.specs.Numbers.{linesOf, known, eval}
-use Rattle.remora.specs.Machine.{noSample, sampled, unitSample, onSamples}
+use Rattle.remora.specs.Machine.{sampled, unitSample, onSamples}
 use Rattle.remora.specs.Histories.{Caused}
-use Rattle.remora.proofs.Lifting.{lastOr-snoc}
-use Rattle.remora.proofs.Sizes.{Lifts, none, one, FunctionFits, Sound, s-literal, s-parameter, s-frame, s-application, SoundAll, end, then, resultFrom, result-is, known-here, known-below, eval-here, eval-below, Fit, cellsAt-fit, fit-at, fit-snoc, LengthC, Keeps, evalLine-length, keeps-all, Sounds}
+use Rattle.remora.proofs.Sizes.{Lifts, none, one, FunctionFits, Sound, s-literal, s-parameter, s-frame, s-application, SoundAll, end, then, resultFrom, result-is, known-here, known-below, eval-here, eval-below, Fit, cellsAt-fit, fit-snoc, LengthC, Keeps, evalLine-length, keeps-all, Sounds}
 
 -- ---- the list functions commute with maps
 

@@ -1,21 +1,20 @@
 -- A typed line, and a typed formula, gives as many items as its shape's size.
 use Prim.Native.Nat.{ℕ, zero, suc, _+_, _-_, _*_, _/_, _≤_, _<_}
-use mathlib.Core.Path.{_≡_, refl, sym, ap, _∙_, subst}
+use mathlib.Core.Path.{_≡_, refl, sym, ap, _∙_}
 use mathlib.Core.Logic.{_⊎_, inl, inr}
-use mathlib.Core.Bool.{Bool, true, false}
-use mathlib.Core.List.{List, [], _∷_, _++_, map, reverse, append-assoc, append-nil}
+use mathlib.Core.Bool.{Bool, true}
+use mathlib.Core.List.{List, [], _∷_, _++_, reverse, append-assoc, append-nil}
 use native.Mathlib.Omega.{arith}
 use native.Mathlib.Nat.{zero-mul, suc-mul, add-mul}
-use lib.ListN.{length, getD, take, drop, replicate, length-append, length-replicate, length-drop}
-use lib.Dec.{eqb}
+use lib.ListN.{length, getD, drop, length-append, length-replicate, length-drop}
 use Rattle.std.specs.Options.{isSome}
 use Rattle.std.proofs.shelf.Tests.{eq-eqb, ne-eqb, cases-eq}
-use Rattle.std.proofs.shelf.Lists.{length-map, length-reverse, reverse-append}
-use Rattle.remora.specs.Shapes.{Shape, size, Prefix, Bounds}
+use Rattle.std.proofs.shelf.Lists.{length-map, reverse-append}
+use Rattle.remora.specs.Shapes.{Shape, size, Bounds}
 use Rattle.remora.specs.Algebras.{Meaning}
-use Rattle.remora.specs.Formulas.{ArrayType, shaped, noType, Line, Formula, Entry, Function, primitive, formula, fold, append, reversal, cells, resultCell, TypedLine, literal, parameter, frame, application, typeOf, lastOr, resultType}
+use Rattle.remora.specs.Formulas.{ArrayType, shaped, noType, Line, Formula, Entry, Function, primitive, formula, fold, append, reversal, cells, resultCell, TypedLine, literal, parameter, frame, application, typeOf, lastOr}
 use Rattle.remora.specs.Typing.{InSet, Alike, no-operand, operand, Operands, no-operands, and-operand, Names, names-operator, names-formula, names-fold, names-append, names-reverse, Types, t-array, t-var, t-frame, t-app, TypesAll, no-lines, and-line}
-use Rattle.remora.specs.Evaluation.{split, concat, Array, arrayOf, noArray, itemsAt, Fault, Outcome, yields, faults, Cells, all, upto, Attempt, value, failed, andThen, Operations, cellAt, cellsAt, firsts, combined, foldFrom, folded, told, applyCell, before, collapse, mapCells, joined, evalLine, onward, evalLines}
+use Rattle.remora.specs.Evaluation.{split, concat, Array, arrayOf, noArray, itemsAt, Outcome, yields, faults, Cells, all, upto, Attempt, value, failed, andThen, Operations, cellAt, cellsAt, firsts, combined, foldFrom, folded, told, applyCell, collapse, mapCells, joined, evalLine, onward, evalLines}
 use Rattle.remora.specs.Forecasts.{entryOf}
 use Rattle.remora.specs.Numbers.{linesOf, known, eval, anyNumber, AllTyped}
 use Rattle.remora.proofs.Lifting.{size-append, lift-at, cell-within, length-part, length-split, lastOr-snoc}

@@ -1,20 +1,18 @@
 -- The ten calls: for each its questions in order, its answer, and the state and the store afterwards.
 use Prim.Native.Nat.{ℕ, _+_}
-use mathlib.Core.Path.{_≡_}
-use mathlib.Core.Bool.{Bool, true, false, _&&_, _||_, not}
+use mathlib.Core.Bool.{Bool, true, false, _&&_, not}
 use mathlib.Core.List.{List, [], _∷_, _++_, map}
 use lib.ListN.{length, getD, take, drop, set}
 use lib.Dec.{eqb, ltb, leb}
 use Rattle.std.specs.declared.option.Option.{Option}
 use Rattle.std.specs.declared.option.Option.the-variants.{Some, None}
-use Rattle.remora.specs.Shapes.{Shape, size, allowed}
+use Rattle.remora.specs.Shapes.{size, allowed}
 use Rattle.remora.specs.Algebras.{Sample, sampleOf, codesOf, Meaning}
 use Rattle.remora.specs.Formulas.{ArrayType, Line, Formula, Kind, a-literal, a-parameter, a-frame, an-operator, a-call, a-fold, an-append, a-reverse, no-kind, kindOf, Entry, TypedLine}
 use Rattle.remora.specs.Questions.{Question, inSet, Verdict, all-typed, refused-at, judge}
 use Rattle.remora.specs.Forecasts.{entryOf, withinLimits}
 use Rattle.remora.specs.Numbers.{noEntry}
-use Rattle.remora.specs.Evaluation.{Fault}
-use Rattle.remora.specs.Machine.{Plan, plans, part, put, Activation, activation, Snapshot, at, Progress, more, done, faulted, idle, choose, step}
+use Rattle.remora.specs.Machine.{Plan, plans, part, put, Activation, activation, at, Progress, more, done, faulted, idle, choose, step}
 
 -- ---- the state of a collection
 

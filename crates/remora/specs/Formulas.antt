@@ -2,7 +2,7 @@
 use Prim.Native.Nat.{ℕ, _+_}
 use mathlib.Core.List.{List, [], _∷_}
 use lib.ListN.{getD}
-use Rattle.remora.specs.Shapes.{Shape, size}
+use Rattle.remora.specs.Shapes.{Shape}
 use Rattle.remora.specs.Algebras.{Meaning}
 
 -- An array type is a base type and a shape.

@@ -1,13 +1,13 @@
 -- The typing relation: one rule for each form of line, one application rule for every function.
 use Prim.Native.Nat.{ℕ, _<_}
 use mathlib.Core.Path.{_≡_}
-use mathlib.Core.Bool.{Bool, true, false}
+use mathlib.Core.Bool.{Bool, true}
 use mathlib.Core.List.{List, [], _∷_, _++_}
 use lib.ListN.{length, getD}
 use Rattle.std.specs.Options.{isSome}
 use Rattle.remora.specs.Shapes.{Shape, size, allowed, Join}
 use Rattle.remora.specs.Algebras.{Meaning}
-use Rattle.remora.specs.Formulas.{ArrayType, shaped, noType, Line, Kind, a-literal, a-parameter, a-frame, an-operator, a-call, a-fold, an-append, a-reverse, kindOf, Entry, Function, primitive, formula, fold, append, reversal, cells, resultCell, TypedLine, literal, parameter, frame, application, typeOf}
+use Rattle.remora.specs.Formulas.{ArrayType, shaped, noType, Line, a-literal, a-parameter, a-frame, an-operator, a-call, a-fold, an-append, a-reverse, kindOf, Entry, Function, primitive, formula, fold, append, reversal, cells, resultCell, TypedLine, literal, parameter, frame, application, typeOf}
 
 -- Every one of the codes is of the base type.
 abbrev pub InSet : (ℕ → ℕ → Bool) → ℕ → List ℕ → Type 0
