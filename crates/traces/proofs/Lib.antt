@@ -1,0 +1,5 @@
+-- The lemmas of this crate.
+mod Steps
+mod Comments
+mod Cuts
+mod Goings
