@@ -1,5 +1,5 @@
 -- The proofs: frames, typing, evaluation, the store and the machine, then histories.
-mod Prefixes
+pub mod Prefixes
 mod Checking
 mod Lifting
 mod Sizes

@@ -3,7 +3,7 @@ use Prim.Native.Nat.{ℕ, _+_, _-_, _≤_}
 use mathlib.Core.Path.{_≡_, refl, sym, ap, _∙_}
 use mathlib.Core.Logic.{_⊎_, inl, inr}
 use mathlib.Core.Bool.{Bool, true, false, _||_}
-use mathlib.Core.List.{List, [], _∷_, _++_, append-nil}
+use mathlib.Core.List.{List, [], _∷_, _++_, append-nil, append-assoc}
 use native.Mathlib.Omega.{arith}
 use lib.ListN.{length, take, drop, take-append-drop, length-append}
 use lib.Seq.{take-at, drop-at}
@@ -156,6 +156,53 @@ join-principal fs p j =
     let a = agree-bounded p fs (j .upper) in
     let k = principal-join fs a in
     (a, prefix-both p (principal fs) (j .least (principal fs) (k .upper)) (k .least p (j .upper)))
+
+-- ---- one frame more
+
+bounds-snoc : (q f : Shape) (fs : List Shape) → Bounds q fs → Prefix f q → Bounds q (fs ++ f ∷ [])
+bounds-snoc q f [] b p = (p, tt)
+bounds-snoc q f (g ∷ fs) b p = (b .0, bounds-snoc q f fs (b .1) p)
+
+bounds-front : (q f : Shape) (fs : List Shape) → Bounds q (fs ++ f ∷ []) → Bounds q fs × Prefix f q
+bounds-front q f [] b = (tt, b .0)
+bounds-front q f (g ∷ fs) b = let u = bounds-front q f fs (b .1) in ((b .0, u .0), u .1)
+
+prefix-trans : (f g h : Shape) → Prefix f g → Prefix g h → Prefix f h
+prefix-trans f g h p q = (p .0 ++ q .0, q .1 ∙ ap (λ (z : Shape). z ++ q .0) (p .1) ∙ append-assoc f (p .0) (q .0))
+
+bounds-more : (p q : Shape) (fs : List Shape) → Bounds p fs → Prefix p q → Bounds q fs
+bounds-more p q [] b e = tt
+bounds-more p q (g ∷ fs) b e = (prefix-trans g p q (b .0) e, bounds-more p q fs (b .1) e)
+
+-- one frame more agrees exactly if it compares with the principal frame, and the longer of the two is then the principal frame
+pub join-snoc : (fs : List Shape) (f : Shape) → agree fs ≡ true
+    → (agree (fs ++ f ∷ []) ≡ comparable (principal fs) f) × (comparable (principal fs) f ≡ true → principal (fs ++ f ∷ []) ≡ longer (ltb (length (principal fs)) (length f)) (principal fs) f)
+join-snoc fs f a = (go (comparable (principal fs) f) refl, λ c. sym (join-principal (fs ++ f ∷ []) _ (joined c (ltb (length (principal fs)) (length f)) refl) .1))
+  where
+    p : Shape
+    p = principal fs
+
+    b : Bounds (principal fs) fs
+    b = principal-bounds fs a
+
+    joined : comparable (principal fs) f ≡ true → (t : Bool) → ltb (length (principal fs)) (length f) ≡ t → Join (fs ++ f ∷ []) (longer t (principal fs) f)
+    joined c true e =
+        let u : Prefix (principal fs) f = shorter-begins (principal fs) f c (let k = ltb-true (length (principal fs)) (length f) e in omega arith) in
+        record { upper = bounds-snoc f f fs (bounds-more (principal fs) f fs b u) (prefix-self f); least = λ q w. bounds-front q f fs w .1 }
+    joined c false e =
+        let u : Prefix f (principal fs) = shorter-begins f (principal fs) (comparable-swap (principal fs) f c) (ltb-false (length (principal fs)) (length f) e) in
+        record { upper = bounds-snoc (principal fs) f fs b u; least = λ q w. principal-least fs q (bounds-front q f fs w .0) }
+
+    go : (t : Bool) → comparable (principal fs) f ≡ t → agree (fs ++ f ∷ []) ≡ t
+    go true c = join-principal (fs ++ f ∷ []) _ (joined c (ltb (length (principal fs)) (length f)) refl) .0
+    go false c = apart (agree (fs ++ f ∷ [])) refl
+      where
+        apart : (t : Bool) → agree (fs ++ f ∷ []) ≡ t → t ≡ false
+        apart true e =
+            let w = bounds-front (principal (fs ++ f ∷ [])) f fs (principal-bounds (fs ++ f ∷ []) e) in
+            let d : comparable (principal fs) f ≡ true = prefixes-compare (principal fs) f (principal (fs ++ f ∷ [])) (prefix-begins _ _ (principal-least fs _ (w .0))) (prefix-begins _ _ (w .1)) in
+            absurd (both-ways (comparable (principal fs) f) c d)
+        apart false e = refl
 
 -- ---- cells
 

@@ -42,17 +42,19 @@ abbrev pub earlier : List ArrayType → List ℕ → Bool
 earlier types [] = true
 earlier types (o ∷ os) = ltb o (length types) && earlier types os
 
+-- Each operand's type passes a test against the type that is wanted of it.
+abbrev pub eachFits : (ArrayType → ArrayType → Bool) → List ArrayType → List ArrayType → List ℕ → Bool
+eachFits test types [] os = true
+eachFits test types (w ∷ ws) [] = true
+eachFits test types (w ∷ ws) (o ∷ os) = test (typeAt types o) w && eachFits test types ws os
+
 -- Each operand has the base type that is wanted of it.
 abbrev pub basesFit : List ArrayType → List ArrayType → List ℕ → Bool
-basesFit types [] os = true
-basesFit types (w ∷ ws) [] = true
-basesFit types (w ∷ ws) (o ∷ os) = eqb (typeAt types o .base) (w .base) && basesFit types ws os
+basesFit types ws os = eachFits (λ t w. eqb (t .base) (w .base)) types ws os
 
 -- Each operand ends in the cell that is wanted of it.
 abbrev pub cellsFit : List ArrayType → List ArrayType → List ℕ → Bool
-cellsFit types [] os = true
-cellsFit types (w ∷ ws) [] = true
-cellsFit types (w ∷ ws) (o ∷ os) = ends (w .shape) (typeAt types o .shape) && cellsFit types ws os
+cellsFit types ws os = eachFits (λ t w. ends (w .shape) (t .shape)) types ws os
 
 -- The operands' frames.
 abbrev pub frames : List ArrayType → List ArrayType → List ℕ → List Shape

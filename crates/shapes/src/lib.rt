@@ -22,6 +22,12 @@ impl Shape {
         rank: 0,
     };
 
+    /// The shape of one axis of 0.
+    pub const NOTHING: Shape = Shape {
+        axes: [0; 4],
+        rank: 1,
+    };
+
     /// The empty shape.
     pub fn scalar() -> Shape
         ensures { λ r. ⌜ r ≡ shapeOf [] ⌝ }
@@ -254,6 +260,12 @@ pub struct ArrayType {
 }
 
 impl ArrayType {
+    /// A type without atoms.
+    pub const NOTHING: ArrayType = ArrayType {
+        base: 0,
+        shape: Shape::NOTHING,
+    };
+
     /// Whether the two have the same base type and the same axes.
     pub fn same(self, other: ArrayType) -> bool
         ensures { λ r. ⌜ r ≡ (eqb (arrayType self .base) (arrayType other .base) && same (arrayType self .shape) (arrayType other .shape)) ⌝ }

@@ -1,0 +1,2 @@
+-- Lemmas on the operands of a line.
+pub mod Asking
