@@ -82,7 +82,8 @@ pub fn shape_allowed(axes: &[u32]) -> bool
     }
 }
 
-/// Whether the fields of a line are in order: kind 0 to 7, known base, allowed shape, at most 4 operands, unnamed fields 0 or empty.
+/// Whether the fields of a line are in order: there is such a kind and such a base type, the shape may be, there are no more than
+/// four operands, and what the kind does not use is left empty.
 pub fn in_order<A: Algebra>(line: &Line) -> bool
     ensures { λ r. ⌜ r ≡ inOrder meaning (lineOf (now (line .entry))) ⌝ }
 {

@@ -196,7 +196,7 @@ unnamedEmpty an-append l = eqb (l .base) 0 && (eqb (l .function) 0 && none (l .c
 unnamedEmpty a-reverse l = eqb (l .base) 0 && (eqb (l .function) 0 && none (l .codes))
 unnamedEmpty no-kind l = false
 
--- The fields of a line are in order: kind 0 to 7, known base, allowed shape, at most 4 operands, unnamed fields 0 or empty.
+-- The fields of a line are in order: there is such a kind and such a base type, the shape may be, there are no more than four operands, and what the kind does not use is left empty.
 abbrev pub inOrder : Meaning → Line → Bool
 inOrder m l = ltb (l .base) (m .bases) && (allowed (l .shape) && (leb (length (l .operands)) 4 && unnamedEmpty (kindOf (l .kind)) l))
 

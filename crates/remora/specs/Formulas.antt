@@ -5,7 +5,7 @@ use lib.ListN.{getD}
 use Rattle.remora.specs.Shapes.{Shape}
 use Rattle.remora.specs.Algebras.{Meaning}
 
--- An array type is a base type and a shape.
+-- The type of an array: the base type of its codes, and its shape.
 pub record ArrayType : Type 0 where
   pub base : ℕ
   pub shape : Shape

@@ -248,7 +248,7 @@ unfoldable pub settle : List Sample → ℕ → Activation → Activation → Li
 settle S q here next below (all xs) = more (at (put S q xs) (next ∷ below))
 settle S q here next below (upto xs x) = faulted (at (put S q xs) (here ∷ below)) x
 
--- The result of an activation, n samples at place q, becomes the next cell of the caller's call line; without a caller the run is done. F has the plans of the formulas by number.
+-- The result of an activation, n samples at place q, is copied to where the caller's call line wants its next cell; if there is no caller, the run is done. F has the plans of the formulas by number.
 unfoldable pub return : (ℕ → List Plan) → List Sample → ℕ → ℕ → List Activation → Progress
 return F S q n [] = done S q
 return F S q n (activation g b ps k c ∷ below) =

@@ -77,7 +77,7 @@ abbrev pub sameShape : List ArrayType → Shape → List ℕ → Bool
 sameShape types s [] = true
 sameShape types s (o ∷ os) = same (typeAt types o .shape) s && sameShape types s os
 
--- An operator has two operands and a single base type throughout.
+-- An operator that a fold can use: its two operands and its result are of one base type.
 abbrev pub foldable : List ℕ → ℕ → Bool
 foldable [] r = false
 foldable (a ∷ []) r = false

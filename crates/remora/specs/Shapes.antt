@@ -53,7 +53,7 @@ ends cell s = leb (length cell) (length s) && same (drop (length s - length cell
 abbrev pub frameOf : Shape → Shape → Shape
 frameOf cell s = take (length s - length cell) s
 
--- Of two frames one is a prefix of the other.
+-- Two frames compare when one is a prefix of the other.
 abbrev pub comparable : Shape → Shape → Bool
 comparable f g = begins f g || begins g f
 
@@ -62,7 +62,7 @@ abbrev pub agreeWith : Shape → List Shape → Bool
 agreeWith f [] = true
 agreeWith f (g ∷ fs) = comparable f g && agreeWith f fs
 
--- Frames agree if of every two one is a prefix of the other.
+-- Frames agree when every pair of them compares.
 abbrev pub agree : List Shape → Bool
 agree [] = true
 agree (f ∷ fs) = agreeWith f fs && agree fs

@@ -237,7 +237,7 @@ impl Shape {
         }
     }
 
-    /// Whether the product of the axes, an axis of 0 counted as 1, is at most 65,536.
+    /// Whether the extent, the product with every axis of 0 taken as 1, is no more than 65,536.
     pub fn allowed(self) -> bool
         ensures { λ r. ⌜ r ≡ allowed (dims self) ⌝ }
     {

@@ -160,7 +160,7 @@ lifted = record {
   outcomes = yields (23 ∷ []) ∷ yields (23 ∷ 6 ∷ []) ∷ [];
 }
 
--- A store of 8 is refused by 18.
+-- One atom fewer in the store, and begin refuses by 18.
 abbrev cramped : Specimen
 cramped = record {
   atoms = 8;
@@ -193,7 +193,7 @@ folds = record {
   outcomes = yields (5 ∷ []) ∷ yields (0 ∷ []) ∷ [];
 }
 
--- quo of 6 8 9 by 2 0 3 faults with cause 1 at cell 1, where 8 is divided by 0; there is no result.
+-- A division of 6 8 9 by 2 0 3: at cell 1 it is 8 by 0, which is a fault with cause 1, so there is no result.
 abbrev divided : Specimen
 divided = record {
   atoms = 9;
