@@ -7,14 +7,14 @@ use native.Mathlib.Omega.{arith}
 use native.Mathlib.Numerals.{add-one}
 use lib.ListN.{length, getD, take, drop}
 use lib.Seq.{drop-cons, length-take-le}
-use lib.Dec.{ltb}
+use lib.Dec.{eqb, ltb}
 use Rattle.std.proofs.shelf.Lists.{length-map, map-append, take-more, take-map, drop-all}
 use mathlib.Core.Logic.{_⊎_, inl, inr}
 use Rattle.std.proofs.shelf.Tests.{and-parts, and-from, cases-lt, both-ways}
 use Rattle.remora.specs.Formulas as theory
-use Rattle.remora.specs.Shapes.{frameOf, comparable, longer, agreeWith, agree, principal}
+use Rattle.remora.specs.Shapes.{same, frameOf, comparable, longer, agreeWith, agree, principal}
 use Rattle.remora.proofs.Prefixes.{join-snoc}
-use Rattle.remora.specs.Questions.{typeAt, earlier, eachFits, frames}
+use Rattle.remora.specs.Questions.{typeAt, earlier, eachFits, frames, inSet, sameBase, sameShape}
 use Rattle.shapes.specs.declared.ArrayType.{ArrayType}
 use Rattle.shapes.specs.Axes.{arrayType, dims, joined}
 use Rattle.formulas.specs.Typings.{typesOf}
@@ -22,18 +22,34 @@ use Rattle.formulas.specs.Typings.{typesOf}
 pub drop-here : {X : Type 0} (xs : List X) (i : ℕ) (d : X) → i < length xs → drop i xs ≡ getD xs i d ∷ drop (i + 1) xs
 drop-here xs i d h = drop-cons xs i d h ∙ ap (λ (k : ℕ). getD xs i d ∷ drop k xs) (sym (add-one i))
 
--- operand i names an earlier line, and so do those behind it
-pub earlier-here : (ts : List theory.ArrayType) (os : List ℕ) (i : ℕ) → i < length os → earlier ts (drop i os) ≡ (ltb (getD os i 0) (length ts) && earlier ts (drop (i + 1) os))
-earlier-here ts os i h = ap (earlier ts) (drop-here os i 0 h)
+-- a question that is asked of every number in a list, at number i, where the answer was r, and behind it
+pub each-here : (test : ℕ → Bool) (all : List ℕ → Bool) → ((x : ℕ) (xs : List ℕ) → all (x ∷ xs) ≡ (test x && all xs))
+    → (xs : List ℕ) (i : ℕ) (r b : Bool) → i < length xs → r ≡ test (getD xs i 0) → r ≡ b → all (drop i xs) ≡ (b && all (drop (i + 1) xs))
+each-here test all cons xs i r b h is e =
+    ap all (drop-here xs i 0 h) ∙ cons (getD xs i 0) (drop (i + 1) xs) ∙ ap (λ (x : Bool). x && all (drop (i + 1) xs)) (sym is ∙ e)
 
 pub types-length : (ts : List ArrayType) → length (typesOf ts) ≡ length ts
 types-length ts = length-map ts arrayType
 
-pub earlier-step : (ts : List ArrayType) (os : List ℕ) (i : ℕ) (b : Bool) → i < length os → ltb (getD os i 0) (length ts) ≡ b → earlier (typesOf ts) (drop i os) ≡ (b && earlier (typesOf ts) (drop (i + 1) os))
-earlier-step ts os i b h e =
-    earlier-here (typesOf ts) os i h
-    ∙ ap (λ (n : ℕ). ltb (getD os i 0) n && earlier (typesOf ts) (drop (i + 1) os)) (types-length ts)
-    ∙ ap (λ (x : Bool). x && earlier (typesOf ts) (drop (i + 1) os)) e
+-- operand i names an earlier line, or not
+pub earlier-step : (ts : List ArrayType) (os : List ℕ) (i : ℕ) (r b : Bool) → i < length os → r ≡ ltb (getD os i 0) (length (typesOf ts)) → r ≡ b → earlier (typesOf ts) (drop i os) ≡ (b && earlier (typesOf ts) (drop (i + 1) os))
+earlier-step ts os i r b h is e = each-here (λ o. ltb o (length (typesOf ts))) (earlier (typesOf ts)) (λ x xs. refl) os i r b h is e
+
+-- code i is of the base type, or not
+pub code-step : (holds : ℕ → ℕ → Bool) (base : ℕ) (cs : List ℕ) (i : ℕ) (r b : Bool) → i < length cs → r ≡ holds base (getD cs i 0) → r ≡ b → inSet holds base (drop i cs) ≡ (b && inSet holds base (drop (i + 1) cs))
+code-step holds base cs i r b h is e = each-here (holds base) (inSet holds base) (λ x xs. refl) cs i r b h is e
+
+-- operand i, of type t, has the base type, or not
+pub base-step : (ts : List ArrayType) (base : ℕ) (os : List ℕ) (i : ℕ) (t : ArrayType) (r b : Bool) → i < length os → arrayType t ≡ typeAt (typesOf ts) (getD os i 0) → r ≡ eqb (t .base) base → r ≡ b
+    → sameBase (typesOf ts) base (drop i os) ≡ (b && sameBase (typesOf ts) base (drop (i + 1) os))
+base-step ts base os i t r b h t-is is e =
+    each-here (λ o. eqb (typeAt (typesOf ts) o .base) base) (sameBase (typesOf ts) base) (λ x xs. refl) os i r b h (is ∙ ap (λ (u : theory.ArrayType). eqb (u .base) base) t-is) e
+
+-- operand i, of type t, has the shape, or not
+pub shape-step : (ts : List ArrayType) (s : List ℕ) (os : List ℕ) (i : ℕ) (t : ArrayType) (r b : Bool) → i < length os → arrayType t ≡ typeAt (typesOf ts) (getD os i 0) → r ≡ same (dims (t .shape)) s → r ≡ b
+    → sameShape (typesOf ts) s (drop i os) ≡ (b && sameShape (typesOf ts) s (drop (i + 1) os))
+shape-step ts s os i t r b h t-is is e =
+    each-here (λ o. same (typeAt (typesOf ts) o .shape) s) (sameShape (typesOf ts) s) (λ x xs. refl) os i r b h (is ∙ ap (λ (u : theory.ArrayType). same (u .shape) s) t-is) e
 
 -- what a read past the end of the code's types stands for
 abbrev pub absent : ArrayType

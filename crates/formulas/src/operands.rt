@@ -9,11 +9,18 @@ ghost use Rattle.formulas.specs.Typings.{typesOf, Joined};
 use shapes::ArrayType;
 use shapes::Shape;
 
-/// Whether an operand names an earlier line.
-fn is_earlier(types: &[ArrayType], operand: u32) -> bool
-    ensures { λ r. ⌜ r ≡ ltb operand (length (now (types .entry))) ⌝ }
+/// Whether a number is that of one among so many things, which are numbered from 0.
+fn is_below(number: u32, count: usize) -> bool
+    ensures { λ r. ⌜ r ≡ ltb number count ⌝ }
 {
-    (operand as usize) < types.len()
+    (number as usize) < count
+}
+
+/// Whether there is a type of this number: for an operand, whether it names an earlier line.
+pub(crate) fn is_typed(types: &[ArrayType], number: u32) -> bool
+    ensures { λ r. ⌜ r ≡ ltb number (length (typesOf (now (types .entry)))) ⌝ }
+{
+    is_below(number, types.len())
 }
 
 /// Whether each operand names an earlier line; there are as many of these as types.
@@ -21,7 +28,7 @@ pub fn all_earlier(types: &[ArrayType], operands: &[u32]) -> bool
     ensures { λ r. ⌜ r ≡ earlier (typesOf (now (types .entry))) (now (operands .entry)) ⌝ }
 {
     for operand in operands {
-        if !is_earlier(types, *operand) {
+        if !is_typed(types, *operand) {
             return false;
         }
     }
@@ -29,7 +36,7 @@ pub fn all_earlier(types: &[ArrayType], operands: &[u32]) -> bool
 }
 
 /// The type of an earlier line, a type without atoms if there is none.
-fn type_at(types: &[ArrayType], operand: u32) -> ArrayType
+pub(crate) fn type_at(types: &[ArrayType], operand: u32) -> ArrayType
     ensures { λ r. ⌜ arrayType r ≡ typeAt (typesOf (now (types .entry))) operand ⌝ }
 {
     let at = operand as usize;
@@ -40,11 +47,11 @@ fn type_at(types: &[ArrayType], operand: u32) -> ArrayType
     }
 }
 
-/// Whether a type has the base type of another.
-fn has_base(given: ArrayType, wanted: ArrayType) -> bool
-    ensures { λ r. ⌜ r ≡ eqb (arrayType given .base) (arrayType wanted .base) ⌝ }
+/// Whether a type has this base type.
+pub(crate) fn has_base(given: ArrayType, base: u32) -> bool
+    ensures { λ r. ⌜ r ≡ eqb (arrayType given .base) base ⌝ }
 {
-    given.base == wanted.base
+    given.base == base
 }
 
 /// The axes of a type before a cell of this type: as many as it has more.
@@ -62,7 +69,7 @@ pub fn bases_fit(types: &[ArrayType], wanted: &[ArrayType], operands: &[u32]) ->
     let count = operands.len().min(wanted.len());
     for i in 0..count {
         let given = type_at(types, operands[i]);
-        if !has_base(given, wanted[i]) {
+        if !has_base(given, wanted[i].base) {
             return false;
         }
     }

@@ -8,13 +8,13 @@ use Rattle.formulas.specs.Typings.{typesOf}
 use Rattle.formulas.proofs.Asking.{earlier-step}
 use Rattle.formulas.proofs.operands.all_earlier.Needs as need
 
-pub returns-then-not-is-earlier : need.returns-then-not-is-earlier
-returns-then-not-is-earlier c =
-    sym (c .loop-operand .inv ∙ earlier-step (c .args .types .now) (c .args .operands .now) (c .loop-operand .operand-index) false (omega arith) (sym (c .is-earlier .ensures) ∙ c .if-not-is-earlier .taken))
+pub returns-then-not-is-typed : need.returns-then-not-is-typed
+returns-then-not-is-typed c =
+    sym (c .loop-operand .inv ∙ earlier-step (c .args .types .now) (c .args .operands .now) (c .loop-operand .operand-index) (c .is-typed .result) false (omega arith) (c .is-typed .ensures) (c .if-not-is-typed .taken))
 
 pub loop-operand-again : need.loop-operand-again
 loop-operand-again c =
-    c .loop-operand .inv ∙ earlier-step (c .args .types .now) (c .args .operands .now) (c .loop-operand .operand-index) true (omega arith) (sym (c .is-earlier .ensures) ∙ c .if-not-is-earlier .left)
+    c .loop-operand .inv ∙ earlier-step (c .args .types .now) (c .args .operands .now) (c .loop-operand .operand-index) (c .is-typed .result) true (omega arith) (c .is-typed .ensures) (c .if-not-is-typed .left)
 
 pub returns : need.returns
 returns c = sym (c .loop-operand .inv ∙ ap (earlier (typesOf (c .args .types .now))) (drop-all (c .loop-operand .operand-index) (c .args .operands .now) (omega arith)))
