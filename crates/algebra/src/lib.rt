@@ -1,4 +1,6 @@
 // Algebras of samples: the trait that the library is generic over, and what its implementations owe.
+#![tactic(auto)]
+
 ghost use Rattle.std.specs.Prelude.{◌≡◌, ℕ, true};
 ghost use Rattle.remora.specs.Algebras.{Meaning, Sample, applied};
 ghost use Rattle.algebra.specs.Promises.{Denotes, Described, ReadAs, samples, answered};

@@ -21,11 +21,11 @@ use Rattle.checker.specs.declared.forecasts.Forecast.{Forecast}
 use Rattle.checker.specs.Views.{lines_in, plans_in}
 use Rattle.checker.specs.Forecasting.{room_in}
 use Rattle.checker.specs.Checking.{givens, verdict, Checked, RefusedBy, CheckedAs, refusal_of, with_rows, LimitedBy, DraftChecked}
-use Rattle.checker.proofs.Judging.{givens-length, result_found}
+use Rattle.checker.proofs.Judging.{givens_length, result_found}
 
 -- the lines of a draft after its first h were written
-pub front-written : (xs ys : List Row) (h : ℕ) → length ys ≡ h → take h (put_mid 0 (h - 0) xs ys) ≡ ys
-front-written xs ys h e = take_at ys _ h e
+pub front_written : (xs ys : List Row) (h : ℕ) → length ys ≡ h → take h (put_mid 0 (h - 0) xs ys) ≡ ys
+front_written xs ys h e = take_at ys _ h e
 
 pub front_length : (xs ys : List Row) (h : ℕ) → length ys ≡ h → h ≤ length xs → length (put_mid 0 (h - 0) xs ys) ≡ length xs
 front_length xs ys h e k = length-append ys _ ∙ (λ i. e i + length-drop (h - 0) xs i) ∙ omega arith
@@ -38,8 +38,8 @@ module _ (m : Meaning) (es : List Entry) (d : Draft) (all : List Row) (f : Forec
   first = take d.height d.rows
 
   -- a line is refused
-  pub draft-refused : (x : Refusal) → RefusedBy (verdict m es ps [] (lines_in d.codes first)) x → givens (take d.height all) ≡ givens first → DraftChecked m es d (Err x) (with_rows d all)
-  draft-refused x r given = record {
+  pub draft_refused : (x : Refusal) → RefusedBy (verdict m es ps [] (lines_in d.codes first)) x → givens (take d.height all) ≡ givens first → DraftChecked m es d (Err x) (with_rows d all)
+  draft_refused x r given = record {
     told = ap (refusal_of (known_in es) ps) r.judged ∙ ap Some (sym r.answer);
     same = refl;
     given = given;
@@ -61,8 +61,8 @@ module _ (m : Meaning) (es : List Entry) (d : Draft) (all : List Row) (f : Forec
     }
 
     -- the draft is accepted
-    pub draft-accepted : (e : Entry) (none : Row) → 0 < d.height → d.height ≤ length d.rows → LimitedBy d.all d.count (get_or all (d.height - 1) none).found.array f (Ok e) → DraftChecked m es d (Ok e) (with_rows d all)
-    draft-accepted e none some few l =
+    pub draft_accepted : (e : Entry) (none : Row) → 0 < d.height → d.height ≤ length d.rows → LimitedBy d.all d.count (get_or all (d.height - 1) none).found.array f (Ok e) → DraftChecked m es d (Ok e) (with_rows d all)
+    draft_accepted e none some few l =
         let n : ℕ = d.height - 1 in
         let tall : length (take d.height all) ≡ n + 1 = length-take-le d.height all (omega arith) ∙ omega arith in
         let result_is : array_type (get_or all n none).found.array ≡ theory.result_type c.typed =
@@ -91,13 +91,13 @@ module _ (m : Meaning) (es : List Entry) (d : Draft) (before after : List Row) (
 
   -- as many lines as before
   tall : givens after ≡ givens before → length after ≡ d.height
-  tall e = givens-length after before e ∙ ap length before-is ∙ length-take-le d.height d.rows few
+  tall e = givens_length after before e ∙ ap length before-is ∙ length-take-le d.height d.rows few
 
   -- the check in the draft's own terms
   moved : (r : Result (Unit {0}) Refusal) → givens after ≡ givens before → CheckedAs m es (types_of own) d.codes before r after f
       → CheckedAs m es (types_of (take d.count d.all)) d.codes (take d.height d.rows) r (take d.height all) f
   moved r e c =
-      subst (λ (rs : List Row). CheckedAs m es (types_of (take d.count d.all)) d.codes (take d.height d.rows) r rs f) (sym (front-written d.rows after d.height (tall e)))
+      subst (λ (rs : List Row). CheckedAs m es (types_of (take d.count d.all)) d.codes (take d.height d.rows) r rs f) (sym (front_written d.rows after d.height (tall e)))
       (subst (λ (rs : List Row). CheckedAs m es (types_of (take d.count d.all)) d.codes rs r after f) before-is
       (subst (λ (ts : List ArrayType). CheckedAs m es (types_of ts) d.codes before r after f) own_is c))
 
@@ -105,12 +105,12 @@ module _ (m : Meaning) (es : List Entry) (d : Draft) (before after : List Row) (
   pub check_refused : (x : Refusal) → CheckedAs m es (types_of own) d.codes before (Err x) after f → DraftChecked m es d (Err x) (with_rows d all)
   check_refused x c =
       let here = moved (Err x) c.1 c in
-      draft-refused m es d all f (front_length d.rows after d.height (tall c.1) few) x here.0 here.1
+      draft_refused m es d all f (front_length d.rows after d.height (tall c.1) few) x here.0 here.1
 
   -- all lines were typed
   pub check_done : (u : Unit {0}) (none : Row) (r : Result Entry Refusal) → 0 < d.height → CheckedAs m es (types_of own) d.codes before (Ok u) after f
       → LimitedBy d.all d.count (get_or all (d.height - 1) none).found.array f r → DraftChecked m es d r (with_rows d all)
   check_done u none (Ok e) some c l =
-      draft-accepted m es d all f (front_length d.rows after d.height (tall c.given) few) (moved (Ok u) c.given c) e none some few l
+      draft_accepted m es d all f (front_length d.rows after d.height (tall c.given) few) (moved (Ok u) c.given c) e none some few l
   check_done u none (Err x) some c l =
       draft_beyond m es d all f (front_length d.rows after d.height (tall c.given) few) (moved (Ok u) c.given c) (get_or all (d.height - 1) none).found.array x l

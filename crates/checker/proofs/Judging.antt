@@ -16,7 +16,7 @@ use Rattle.lines.specs.declared.refusals.Refusal.{Refusal}
 use Rattle.lines.specs.Refusals.{answer_of}
 use Rattle.shapes.specs.declared.ArrayType.{ArrayType}
 use Rattle.shapes.specs.Axes.{array_type, dims}
-use Rattle.shapes.proofs.Products.{size-allowed}
+use Rattle.shapes.proofs.Products.{size_allowed}
 use Rattle.typing.specs.declared.found.Entry.{Entry}
 use Rattle.typing.specs.declared.found.Typed.{Typed}
 use Rattle.typing.specs.Typings.{types_of, answer_at, Refused}
@@ -28,7 +28,7 @@ use Rattle.checker.specs.declared.forecasts.Forecast.{Forecast}
 use Rattle.checker.specs.Views.{line_in, lines_in, plans_in}
 use Rattle.checker.specs.Forecasting.{share_for, share_of, added, room_in, no_forecast}
 use Rattle.checker.specs.Checking.{givens, RowTyped, verdict, before_all, atoms_in, Progress, Checked, RefusedBy, CheckedAs}
-use Rattle.checker.proofs.Viewing.{lines-length}
+use Rattle.checker.proofs.Viewing.{lines_length}
 
 -- ---- the verdict
 
@@ -38,13 +38,13 @@ before_push [] r v = refl
 before_push (x ∷ rs) r v = ap (before x) (before_push rs r v)
 
 -- typed lines before a refusal, and before no more lines
-before-refused : (rs : List theory.TypedLine) (q k : ℕ) → before_all rs (refused_at q k) ≡ refused_at q k
-before-refused [] q k = refl
-before-refused (r ∷ rs) q k = ap (before r) (before-refused rs q k)
+before_refused : (rs : List theory.TypedLine) (q k : ℕ) → before_all rs (refused_at q k) ≡ refused_at q k
+before_refused [] q k = refl
+before_refused (r ∷ rs) q k = ap (before r) (before_refused rs q k)
 
-before-typed : (rs : List theory.TypedLine) → before_all rs (all_typed []) ≡ all_typed rs
-before-typed [] = refl
-before-typed (r ∷ rs) = ap (before r) (before-typed rs)
+before_typed : (rs : List theory.TypedLine) → before_all rs (all_typed []) ≡ all_typed rs
+before_typed [] = refl
+before_typed (r ∷ rs) = ap (before r) (before_typed rs)
 
 -- the types of typed lines and of one more
 types_push : (rs : List theory.TypedLine) (r : theory.TypedLine) → theory.types_of (rs ++ r ∷ []) ≡ theory.types_of rs ++ theory.type_of r ∷ []
@@ -152,9 +152,9 @@ last_yes (q ∷ []) h = (first_yes q [] h).0
 last_yes (q ∷ r ∷ qs) h = last_yes (r ∷ qs) (first_yes q (r ∷ qs) h).1
 
 -- a line all of whose questions are answered by yes has an allowed shape
-questions-allowed : (m : Meaning) (n : ℕ) (E : ℕ → theory.Entry) (usable : ℕ → Bool) (ps types : List theory.ArrayType) (l : theory.Line)
+questions_allowed : (m : Meaning) (n : ℕ) (E : ℕ → theory.Entry) (usable : ℕ → Bool) (ps types : List theory.ArrayType) (l : theory.Line)
     → first_no (questions m n E usable ps types l) ≡ None → allowed (theory.type_of (typed m E ps types l)).shape ≡ true
-questions-allowed m n E usable ps types l = go (theory.kind_of l.kind)
+questions_allowed m n E usable ps types l = go (theory.kind_of l.kind)
   where
     go : (k : theory.Kind) → first_no (questions_of m n E usable ps types k l) ≡ None → allowed (theory.type_of (typed_as m E ps types k l)).shape ≡ true
     go theory.a_literal h = last_yes (questions_of m n E usable ps types theory.a_literal l) h
@@ -168,14 +168,14 @@ questions-allowed m n E usable ps types l = go (theory.kind_of l.kind)
     go theory.no_kind h = let z : ◌≡◌ {A = Option ℕ} (Some 7) None = h in let w : ◌≡◌ {A = ℕ} 0 1 = cc in absurd (omega arith)
 
 -- the atoms of a line with an allowed shape
-atoms-small : (m : Meaning) (E : ℕ → theory.Entry) (ps types : List theory.ArrayType) (l : theory.Line) → allowed (theory.type_of (typed m E ps types l)).shape ≡ true → atoms (typed m E ps types l) ≤ 65536
-atoms-small m E ps types l = go (typed m E ps types l)
+atoms_small : (m : Meaning) (E : ℕ → theory.Entry) (ps types : List theory.ArrayType) (l : theory.Line) → allowed (theory.type_of (typed m E ps types l)).shape ≡ true → atoms (typed m E ps types l) ≤ 65536
+atoms_small m E ps types l = go (typed m E ps types l)
   where
     go : (r : theory.TypedLine) → allowed (theory.type_of r).shape ≡ true → atoms r ≤ 65536
-    go (theory.literal t cs) h = size-allowed t.shape h
+    go (theory.literal t cs) h = size_allowed t.shape h
     go (theory.parameter k t) h = omega arith
-    go (theory.frame os p t) h = size-allowed t.shape h
-    go (theory.application f os p t) h = size-allowed t.shape h
+    go (theory.frame os p t) h = size_allowed t.shape h
+    go (theory.application f os p t) h = size_allowed t.shape h
 
 -- allowed types with one more
 allowed_push : (ts : List theory.ArrayType) (t : theory.ArrayType) → AllAllowed ts → allowed t.shape ≡ true → AllAllowed (ts ++ t ∷ [])
@@ -185,29 +185,29 @@ allowed_push (x ∷ ts) t a h = (a.0, allowed_push ts t a.1 h)
 -- ---- one line at a time
 
 -- lines from number k on
-lines-drop : (cs : List ℕ) (k : ℕ) (rs : List Row) → drop k (lines_in cs rs) ≡ lines_in cs (drop k rs)
-lines-drop cs zero rs = refl
-lines-drop cs (suc k) [] = refl
-lines-drop cs (suc k) (r ∷ rs) = lines-drop cs k rs
+lines_drop : (cs : List ℕ) (k : ℕ) (rs : List Row) → drop k (lines_in cs rs) ≡ lines_in cs (drop k rs)
+lines_drop cs zero rs = refl
+lines_drop cs (suc k) [] = refl
+lines_drop cs (suc k) (r ∷ rs) = lines_drop cs k rs
 
 -- plans one behind the other
-plans-append : (cs : List ℕ) (rs ss : List Row) → plans_in cs (rs ++ ss) ≡ plans_in cs rs ++ plans_in cs ss
-plans-append cs [] ss = refl
-plans-append cs (r ∷ rs) ss = ap (λ (ps : List Plan). planned (line_in cs r.given) r.found r.offset ∷ ps) (plans-append cs rs ss)
+plans_append : (cs : List ℕ) (rs ss : List Row) → plans_in cs (rs ++ ss) ≡ plans_in cs rs ++ plans_in cs ss
+plans_append cs [] ss = refl
+plans_append cs (r ∷ rs) ss = ap (λ (ps : List Plan). planned (line_in cs r.given) r.found r.offset ∷ ps) (plans_append cs rs ss)
 
 -- as many lines as were handed over
-pub givens-length : (rs ss : List Row) → givens rs ≡ givens ss → length rs ≡ length ss
-givens-length rs ss e = sym (length-map rs (λ (r : Row). r.given)) ∙ ap length e ∙ length-map ss (λ (r : Row). r.given)
+pub givens_length : (rs ss : List Row) → givens rs ≡ givens ss → length rs ≡ length ss
+givens_length rs ss e = sym (length-map rs (λ (r : Row). r.given)) ∙ ap length e ∙ length-map ss (λ (r : Row). r.given)
 
 -- what was handed over of line k
-givens-at : (rs ss : List Row) (k : ℕ) (d : Row) → givens rs ≡ givens ss → k < length ss → (get_or rs k d).given ≡ (get_or ss k d).given
-givens-at rs ss k d e h =
-    let long = givens-length rs ss e in
+givens_at : (rs ss : List Row) (k : ℕ) (d : Row) → givens rs ≡ givens ss → k < length ss → (get_or rs k d).given ≡ (get_or ss k d).given
+givens_at rs ss k d e h =
+    let long = givens_length rs ss e in
     sym (get_or-map (λ (r : Row). r.given) rs k d d.given (omega arith)) ∙ ap (λ (gs : List Given). get_or gs k d.given) e ∙ get_or-map (λ (r : Row). r.given) ss k d d.given h
 
 -- a line changed in what was found of it alone
-givens-set : (rs : List Row) (k : ℕ) (s d : Row) → s.given ≡ (get_or rs k d).given → k < length rs → givens (set rs k s) ≡ givens rs
-givens-set rs k s d e h =
+givens_set : (rs : List Row) (k : ℕ) (s d : Row) → s.given ≡ (get_or rs k d).given → k < length rs → givens (set rs k s) ≡ givens rs
+givens_set rs k s d e h =
     map-set (λ (r : Row). r.given) rs k s
     ∙ ap (set (givens rs) k) (e ∙ sym (get_or-map (λ (r : Row). r.given) rs k d d.given h))
     ∙ set-get_or (givens rs) k d.given
@@ -237,9 +237,9 @@ module _ (m : Meaning) (es : List Entry) (ps : List theory.ArrayType) (cs : List
     -- the line whose turn it is, and those behind it
     turn : (s : Row) → s.given ≡ (get_or rows k d).given → drop k (lines_in cs first) ≡ line_in cs s.given ∷ drop (k + 1) (lines_in cs first)
     turn s e =
-        lines-drop cs k first
+        lines_drop cs k first
         ∙ ap (lines_in cs) (drop_more first k d h)
-        ∙ (λ i. line_in cs (sym (e ∙ givens-at rows first k d p.given h) i) ∷ sym (lines-drop cs (k + 1) first) i)
+        ∙ (λ i. line_in cs (sym (e ∙ givens_at rows first k d p.given h) i) ∷ sym (lines_drop cs (k + 1) first) i)
 
     -- one more line, with what was found of it and what it adds
     progress_more : (s : Row) (e : Entry) → k < length types → s.given ≡ (get_or rows k d).given → s.offset ≡ f.place
@@ -255,20 +255,20 @@ module _ (m : Meaning) (es : List Entry) (ps : List theory.ArrayType) (cs : List
         let yes : first_no (questions m (length es) E (usable_in es) ps before_types l) ≡ None =
         subst (λ (ts : List theory.ArrayType). first_no (questions m (length es) E (usable_in es) ps ts l) ≡ None) p.types_are no-no in
         let here : Found m E ps before_types l s.found = subst (λ (ts : List theory.ArrayType). Found m E ps ts l s.found) p.types_are found in
-        let shape-ok : allowed (theory.type_of r).shape ≡ true = questions-allowed m (length es) E (usable_in es) ps before_types l yes in
-        let small : size (dims s.found.array.shape) ≤ 65536 = size-allowed (dims s.found.array.shape) (ap (λ (t : theory.ArrayType). allowed t.shape) here.type ∙ shape-ok) in
+        let shape-ok : allowed (theory.type_of r).shape ≡ true = questions_allowed m (length es) E (usable_in es) ps before_types l yes in
+        let small : size (dims s.found.array.shape) ≤ 65536 = size_allowed (dims s.found.array.shape) (ap (λ (t : theory.ArrayType). allowed t.shape) here.type ∙ shape-ok) in
         let atoms_are : min (size (dims s.found.array.shape)) 4294967295 ≡ size (dims s.found.array.shape) = omega arith in
         let share : line_share E r ≡ share_of e s =
         share_planned m E before_types s.offset r
         ∙ ap (λ (x : Plan). plan_share E x.kind x) (sym (here.plan p.small s.offset))
         ∙ share_found E cs s.given s.found s.offset e (min (size (dims s.found.array.shape)) 4294967295) known atoms_are in
-        let long = givens-length rows first p.given in
+        let long = givens_length rows first p.given in
         let more-types : types_of (take (k + 1) (set types k s.found.array)) ≡ theory.types_of (p.done ++ r ∷ []) =
         ap types_of (take_more_set types k s.found.array room) ∙ map-append array_type (take k types) (s.found.array ∷ [])
         ∙ (λ i. p.types_are i ++ here.type i ∷ []) ∙ sym (types_push p.done r) in
         let plan-is : planned l s.found s.offset ≡ plan_of m E before_types (0 + atoms_in p.done) r =
         here.plan p.small s.offset ∙ ap (λ (q : ℕ). plan_of m E before_types q r) (offset-is ∙ p.place ∙ sym (zero-add (atoms_in p.done))) in
-        let few_atoms : (share_of e s).atoms ≤ 65536 = subst (λ (x : Share). x.atoms ≤ 65536) share (atoms-small m E ps before_types l shape-ok) in
+        let few_atoms : (share_of e s).atoms ≤ 65536 = subst (λ (x : Share). x.atoms ≤ 65536) share (atoms_small m E ps before_types l shape-ok) in
         record {
           done = p.done ++ r ∷ [];
           judged = p.judged
@@ -278,8 +278,8 @@ module _ (m : Meaning) (es : List Entry) (ps : List theory.ArrayType) (cs : List
               ∙ ap (λ (ts : List theory.ArrayType). before_all (p.done ++ r ∷ []) (verdict m es ps ts (drop (k + 1) (lines_in cs first)))) (sym (types_push p.done r));
           types_are = more-types;
           small = subst AllAllowed (sym (types_push p.done r)) (allowed_push before_types (theory.type_of r) p.small shape-ok);
-          given = givens-set rows k s d given_is (omega arith) ∙ p.given;
-          planned = ap (plans_in cs) (take_more_set rows k s (omega arith)) ∙ plans-append cs (take k rows) (s ∷ []) ∙ (λ i. p.planned i ++ plan-is i ∷ []) ∙ sym (plans_push m E [] 0 p.done r);
+          given = givens_set rows k s d given_is (omega arith) ∙ p.given;
+          planned = ap (plans_in cs) (take_more_set rows k s (omega arith)) ∙ plans_append cs (take k rows) (s ∷ []) ∙ (λ i. p.planned i ++ plan-is i ∷ []) ∙ sym (plans_push m E [] 0 p.done r);
           steps = (λ i. p.steps i + (sym share i).steps) ∙ sym (steps_push E p.done r);
           place = (λ i. p.place i + (sym share i).atoms) ∙ sym (atoms_push p.done r);
           most = λ rest. room_push E p.done r f.most f.place p.most rest
@@ -310,7 +310,7 @@ module _ (m : Meaning) (es : List Entry) (ps : List theory.ArrayType) (cs : List
           judged = p.judged
               ∙ ap (λ (ls : List theory.Line). before_all p.done (verdict m es ps before_types ls)) (turn s given_is)
               ∙ ap (λ (o : Option ℕ). before_all p.done (unless o (length before_types) (typed m (known_in es) ps before_types (line_in cs s.given)) (verdict m es ps (before_types ++ theory.type_of (typed m (known_in es) ps before_types (line_in cs s.given)) ∷ []) (drop (k + 1) (lines_in cs first))))) is
-              ∙ before-refused p.done q (length before_types)
+              ∙ before_refused p.done q (length before_types)
               ∙ ap (refused_at q) long;
           answer = sym (some_same a);
         }
@@ -332,19 +332,19 @@ module _ (m : Meaning) (es : List Entry) (ps : List theory.ArrayType) (cs : List
     progress_stop own s e place f' own_is room told =
         let all = subst (λ (ts : List ArrayType). RowTyped m es ps (types_of ts) cs k place (get_or rows k d) (Err e) s) own_is told in
         let same : s.given ≡ (get_or rows k d).given = ap (λ (r : Row). r.given) all.1 in
-        let long = givens-length rows first p.given in
-        (progress_no s e room same (subst (λ (g : Given). Refused (questions m (length es) (known_in es) (usable_in es) ps (types_of (take k types)) (line_in cs g)) k e) (sym same) all.0), givens-set rows k s d same (omega arith) ∙ p.given)
+        let long = givens_length rows first p.given in
+        (progress_no s e room same (subst (λ (g : Given). Refused (questions m (length es) (known_in es) (usable_in es) ps (types_of (take k types)) (line_in cs g)) k e) (sym same) all.0), givens_set rows k s d same (omega arith) ∙ p.given)
 
   -- behind the last line
   pub progress_all : (k : ℕ) (types : List ArrayType) (rows : List Row) (f : Forecast) → Progress m es ps cs first k types rows f → k ≡ length first → Checked m es ps cs first rows f
   progress_all k types rows f p end =
       let h : length first ≤ k = omega arith in
-      let long = givens-length rows first p.given in
+      let long = givens_length rows first p.given in
       record {
         typed = p.done;
         judged = p.judged
-            ∙ ap (λ (ls : List theory.Line). before_all p.done (verdict m es ps (theory.types_of p.done) ls)) (drop_all k (lines_in cs first) (omega (arith, lines-length cs first)))
-            ∙ before-typed p.done;
+            ∙ ap (λ (ls : List theory.Line). before_all p.done (verdict m es ps (theory.types_of p.done) ls)) (drop_all k (lines_in cs first) (omega (arith, lines_length cs first)))
+            ∙ before_typed p.done;
         given = p.given;
         planned = ap (plans_in cs) (sym (take_all k rows (omega arith))) ∙ p.planned;
         steps = p.steps;
@@ -358,13 +358,13 @@ module _ (m : Meaning) (es : List Entry) (ps : List theory.ArrayType) (cs : List
 -- the types in plans are those of the lines
 plan_types : (m : Meaning) (E : ℕ → theory.Entry) (types : List theory.ArrayType) (q : ℕ) (rs : List theory.TypedLine) → map (λ (x : Plan). x.type) (plans m E types q rs) ≡ theory.types_of rs
 plan_types m E types q [] = refl
-plan_types m E types q (r ∷ rs) = λ i. plan-type r i ∷ plan_types m E (types ++ theory.type_of r ∷ []) (q + atoms r) rs i
+plan_types m E types q (r ∷ rs) = λ i. plan_type r i ∷ plan_types m E (types ++ theory.type_of r ∷ []) (q + atoms r) rs i
   where
-    plan-type : (r : theory.TypedLine) → (plan_of m E types q r).type ≡ theory.type_of r
-    plan-type (theory.literal t cs) = refl
-    plan-type (theory.parameter k t) = refl
-    plan-type (theory.frame os p t) = refl
-    plan-type (theory.application f os p t) = refl
+    plan_type : (r : theory.TypedLine) → (plan_of m E types q r).type ≡ theory.type_of r
+    plan_type (theory.literal t cs) = refl
+    plan_type (theory.parameter k t) = refl
+    plan_type (theory.frame os p t) = refl
+    plan_type (theory.application f os p t) = refl
 
 -- the types found are those of the plans
 found_types : (cs : List ℕ) (rs : List Row) → map (λ (r : Row). array_type r.found.array) rs ≡ map (λ (x : Plan). x.type) (plans_in cs rs)
@@ -372,11 +372,11 @@ found_types cs [] = refl
 found_types cs (r ∷ rs) = ap (λ (ts : List theory.ArrayType). array_type r.found.array ∷ ts) (found_types cs rs)
 
 -- the last of a list
-last-read : {X : Type 0} (xs : List X) (d x : X) (n : ℕ) → length xs ≡ n + 1 → theory.last_or x xs ≡ get_or xs n d
-last-read [] d x n e = absurd (omega (arith, e))
-last-read (y ∷ []) d x n e = let z : n ≡ 0 = omega (arith, e) in ap (λ (k : ℕ). get_or (y ∷ []) k d) (sym z)
-last-read (y ∷ z ∷ xs) d x zero e = absurd (omega (arith, e))
-last-read (y ∷ z ∷ xs) d x (suc n) e = last-read (z ∷ xs) d y n (omega arith)
+last_read : {X : Type 0} (xs : List X) (d x : X) (n : ℕ) → length xs ≡ n + 1 → theory.last_or x xs ≡ get_or xs n d
+last_read [] d x n e = absurd (omega (arith, e))
+last_read (y ∷ []) d x n e = let z : n ≡ 0 = omega (arith, e) in ap (λ (k : ℕ). get_or (y ∷ []) k d) (sym z)
+last_read (y ∷ z ∷ xs) d x zero e = absurd (omega (arith, e))
+last_read (y ∷ z ∷ xs) d x (suc n) e = last_read (z ∷ xs) d y n (omega arith)
 
 -- the last type of typed lines
 last_type : (rs : List theory.TypedLine) (r : theory.TypedLine) → theory.type_of (theory.last_or r rs) ≡ theory.last_or (theory.type_of r) (theory.types_of rs)
@@ -390,5 +390,5 @@ result_found m es ps cs first rows f n d c long =
     let types_are : map (λ (r : Row). array_type r.found.array) rows ≡ theory.types_of c.type-inv = found_types cs rows ∙ ap (map (λ (x : Plan). x.type)) c.planned ∙ plan_types m (known_in es) [] 0 c.type-inv in
     sym (get_or-map (λ (r : Row). array_type r.found.array) rows n d theory.no_type (omega arith))
     ∙ ap (λ (ts : List theory.ArrayType). get_or ts n theory.no_type) types_are
-    ∙ sym (last-read (theory.types_of c.type-inv) theory.no_type theory.no_type n (sym (ap length types_are) ∙ length-map rows (λ (r : Row). array_type r.found.array) ∙ long))
+    ∙ sym (last_read (theory.types_of c.type-inv) theory.no_type theory.no_type n (sym (ap length types_are) ∙ length-map rows (λ (r : Row). array_type r.found.array) ∙ long))
     ∙ sym (last_type c.type-inv (theory.literal theory.no_type []))

@@ -13,7 +13,7 @@ use Rattle.checker.specs.Views.{rows_of}
 use Rattle.checker.specs.Changes.{pasted, row_with, begun, grown, dropped, kept, withdrawn_at}
 use Rattle.checker.specs.Sound.{within, code_count, coded, stands, all_stand, row_total, code_total, draft_sound, tables_sound, both_sound, sized, sound}
 use Rattle.checker.specs.Checking.{with_rows}
-use Rattle.checker.proofs.Pasting.{same-part, pasted-before, pasted_there, length-pasted}
+use Rattle.checker.proofs.Pasting.{same_part, pasted_before, pasted_there, length_pasted}
 
 -- ---- what a sound draft and sound tables say
 
@@ -22,8 +22,8 @@ pub record DraftParts (d : Draft) : Type 0 where
   pub inside : within d.width (take d.height d.rows) ≡ true
   pub total : code_count (take d.height d.rows) ≡ d.width
 
-pub draft-parts : (d : Draft) → draft_sound d ≡ true → DraftParts d
-draft-parts d s =
+pub draft_parts : (d : Draft) → draft_sound d ≡ true → DraftParts d
+draft_parts d s =
     let both = and_parts (leb d.height 64) (coded d.width (take d.height d.rows)) s in
     let own = and_parts (within d.width (take d.height d.rows)) (eqb (code_count (take d.height d.rows)) d.width) both.1 in
     record { few = leb-true _ 64 both.0; inside = own.0; total = eqb-true _ _ own.1 }
@@ -34,8 +34,8 @@ pub record TablesParts (t : Tables) : Type 0 where
   pub rows : row_total (take t.count t.extents) ≡ t.height
   pub codes : code_total (take t.count t.extents) ≡ t.width
 
-pub tables-parts : (t : Tables) → tables_sound t ≡ true → TablesParts t
-tables-parts t s =
+pub tables_parts : (t : Tables) → tables_sound t ≡ true → TablesParts t
+tables_parts t s =
     let xs = take t.count t.extents in
     let a = and_parts (leb t.count 64) _ s in
     let b = and_parts (all_stand t.rows t.height t.width xs) _ a.1 in
@@ -95,8 +95,8 @@ parts d t s =
     record {
       is_draft_sound = b.0;
       are_tables_sound = b.1;
-      draft = draft-parts d b.0;
-      tables = tables-parts t b.1;
+      draft = draft_parts d b.0;
+      tables = tables_parts t b.1;
       rows = leb-true _ 1024 c.0;
       codes = leb-true _ 4096 c.1;
       long = lengths d t e.1;
@@ -111,19 +111,19 @@ sound_of d t a b h w l =
 -- ---- the draft
 
 -- a draft without lines is sound
-pub begun-sound : (d : Draft) (t : Tables) (serial : ℕ) (all : List ArrayType) (count : ℕ) → sound d t ≡ true → sound (begun d serial all count) t ≡ true
-begun-sound d t serial all count s = let p = parts d t s in let l = p.long in
+pub begun_sound : (d : Draft) (t : Tables) (serial : ℕ) (all : List ArrayType) (count : ℕ) → sound d t ≡ true → sound (begun d serial all count) t ≡ true
+begun_sound d t serial all count s = let p = parts d t s in let l = p.long in
     sound_of (begun d serial all count) t refl p.are_tables_sound (omega arith) (omega arith)
     (record { draft_rows = l.draft_rows; draft_codes = l.draft_codes; entries = l.entries; extents = l.extents; rows = l.rows; codes = l.codes })
 
-pub dropped-sound : (d : Draft) (t : Tables) → sound d t ≡ true → sound (dropped d) t ≡ true
-dropped-sound d t s = let p = parts d t s in let l = p.long in
+pub dropped_sound : (d : Draft) (t : Tables) → sound d t ≡ true → sound (dropped d) t ≡ true
+dropped_sound d t s = let p = parts d t s in let l = p.long in
     sound_of (dropped d) t refl p.are_tables_sound (omega arith) (omega arith)
     (record { draft_rows = l.draft_rows; draft_codes = l.draft_codes; entries = l.entries; extents = l.extents; rows = l.rows; codes = l.codes })
 
 -- a formula withdrawn
-pub withdrawn-sound : (d : Draft) (t : Tables) (g : ℕ) → sound d t ≡ true → sound d (withdrawn_at t g) ≡ true
-withdrawn-sound d t g s = let p = parts d t s in let l = p.long in
+pub withdrawn_sound : (d : Draft) (t : Tables) (g : ℕ) → sound d t ≡ true → sound d (withdrawn_at t g) ≡ true
+withdrawn_sound d t g s = let p = parts d t s in let l = p.long in
     sound_of d (withdrawn_at t g) p.is_draft_sound p.are_tables_sound p.rows p.codes
     (record { draft_rows = l.draft_rows; draft_codes = l.draft_codes; entries = length-set t.entries g _ ∙ l.entries; extents = l.extents; rows = l.rows; codes = l.codes })
 
@@ -148,9 +148,9 @@ count_push [] r = omega arith
 count_push (x ∷ rs) r = omega (arith, count_push rs r)
 
 -- a draft with one more line
-pub grown-sound : (d : Draft) (t : Tables) (f : Fields) (cs : List ℕ) → sound d t ≡ true → d.height < 64 → t.height + d.height < 1024 → t.width + d.width + length cs ≤ 4096
+pub grown_sound : (d : Draft) (t : Tables) (f : Fields) (cs : List ℕ) → sound d t ≡ true → d.height < 64 → t.height + d.height < 1024 → t.width + d.width + length cs ≤ 4096
     → sound (grown d f cs) t ≡ true
-grown-sound d t f cs s few rows codes =
+grown_sound d t f cs s few rows codes =
     let p = parts d t s in
     let l = p.long in
     let long = l.draft_rows in
@@ -165,7 +165,7 @@ grown-sound d t f cs s few rows codes =
     p.are_tables_sound (omega arith) (omega arith)
     (record {
       draft_rows = length-set d.rows d.height r ∙ l.draft_rows;
-      draft_codes = length-pasted d.codes d.width cs (let e = l.draft_codes in omega arith) ∙ l.draft_codes;
+      draft_codes = length_pasted d.codes d.width cs (let e = l.draft_codes in omega arith) ∙ l.draft_codes;
       entries = l.entries;
       extents = l.extents;
       rows = l.rows;
@@ -183,7 +183,7 @@ stands_same rs ss h w k v x e a b s =
     let last : x.start + x.codes ≤ w = leb-true _ w places.1 in
     and_from (leb (x.first + x.rows) k && leb (x.start + x.codes) v) (coded x.codes (rows_of x ss))
     (and_from (leb (x.first + x.rows) k) (leb (x.start + x.codes) v) (le-leb _ k (omega arith)) (le-leb _ v (omega arith)))
-    (ap (coded x.codes) (sym (same-part rs ss h x.first x.rows e end)) ∙ here.1)
+    (ap (coded x.codes) (sym (same_part rs ss h x.first x.rows e end)) ∙ here.1)
 
 -- so do all of them, and one that stands with them
 all_push : (rs ss : List Row) (h w k v : ℕ) (xs : List Extent) (y : Extent) → take h rs ≡ take h ss → h ≤ k → w ≤ v → all_stand rs h w xs ≡ true → stands ss k v y ≡ true → all_stand ss k v (xs ++ y ∷ []) ≡ true
@@ -202,9 +202,9 @@ code_push [] y = omega arith
 code_push (x ∷ xs) y = omega (arith, code_push xs y)
 
 -- tables with one more formula, whose lines have its codes, and no draft
-pub kept-sound : (d : Draft) (t : Tables) (e : Entry) (rs : List Row) (cs : List ℕ) → sound d t ≡ true → t.count < 64 → t.height + length rs ≤ 1024 → t.width + length cs ≤ 4096
+pub kept_sound : (d : Draft) (t : Tables) (e : Entry) (rs : List Row) (cs : List ℕ) → sound d t ≡ true → t.count < 64 → t.height + length rs ≤ 1024 → t.width + length cs ≤ 4096
     → coded (length cs) rs ≡ true → sound (dropped d) (kept t e rs cs) ≡ true
-kept-sound d t e rs cs s few tall wide own =
+kept_sound d t e rs cs s few tall wide own =
     let p = parts d t s in
     let l = p.long in
     let extents = l.extents in
@@ -220,7 +220,7 @@ kept-sound d t e rs cs s few tall wide own =
     (and_from (leb (t.height + length rs) k) (leb (t.width + length cs) v) (le-leb _ k (omega arith)) (le-leb _ v (omega arith))) (ap (coded (length cs)) there ∙ own) in
     let stand : all_stand all k v (take (t.count + 1) (set t.extents t.count x)) ≡ true =
     ap (all_stand all k v) more
-    ∙ all_push t.rows all t.height t.width k v (take t.count t.extents) x (sym (pasted-before t.rows t.height rs (omega arith))) (omega arith) (omega arith) p.tables.stand new in
+    ∙ all_push t.rows all t.height t.width k v (take t.count t.extents) x (sym (pasted_before t.rows t.height rs (omega arith))) (omega arith) (omega arith) p.tables.stand new in
     let row-sum : row_total (take (t.count + 1) (set t.extents t.count x)) ≡ k = ap row_total more ∙ row_push (take t.count t.extents) x ∙ ap (λ (n : ℕ). n + length rs) p.tables.rows in
     let code_sum : code_total (take (t.count + 1) (set t.extents t.count x)) ≡ v = ap code_total more ∙ code_push (take t.count t.extents) x ∙ ap (λ (n : ℕ). n + length cs) p.tables.codes in
     sound_of (dropped d) (kept t e rs cs) refl
@@ -233,8 +233,8 @@ kept-sound d t e rs cs s few tall wide own =
       draft_codes = l.draft_codes;
       entries = length-set t.entries t.count e ∙ l.entries;
       extents = length-set t.extents t.count x ∙ l.extents;
-      rows = length-pasted t.rows t.height rs (omega arith) ∙ l.rows;
-      codes = length-pasted t.codes t.width cs (let f = l.codes in omega arith) ∙ l.codes;
+      rows = length_pasted t.rows t.height rs (omega arith) ∙ l.rows;
+      codes = length_pasted t.codes t.width cs (let f = l.codes in omega arith) ∙ l.codes;
     })
 
 -- the lines of a dropped draft do not matter

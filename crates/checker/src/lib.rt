@@ -1,4 +1,6 @@
 // Drafts and formulas in tables of fixed size: the draft, the entered formulas, the check of a draft and its forecasts.
+#![tactic(auto)]
+
 mod checks;
 mod drafts;
 mod forecasts;

@@ -23,8 +23,8 @@ use Rattle.formulas.specs.Views.{draft_of, lines_in, plans_in, kept_with, formul
 use Rattle.formulas.specs.Changes.{dropped, kept}
 use Rattle.formulas.specs.Sound.{sound, within, coded}
 use Rattle.formulas.specs.Checking.{givens, verdict, refusal_of, with_rows, Accepted, DraftChecked}
-use Rattle.formulas.proofs.Viewing.{lines-length, lines_same, lines-given, plans-same, coded-given, kept-length, kept_entry, kept_mark, kept_more}
-use Rattle.formulas.proofs.Sounding.{parts, dropped-sound, dropped_other, kept-sound}
+use Rattle.formulas.proofs.Viewing.{lines_length, lines_same, lines_given, plans_same, coded_given, kept_length, kept_entry, kept_mark, kept_more}
+use Rattle.formulas.proofs.Sounding.{parts, dropped_sound, dropped_other, kept_sound}
 use Rattle.collection.specs.States.{state_with}
 use Rattle.collection.specs.Promises.{Entered}
 use Rattle.collection.proofs.Serving.{choose_yes, choose_no, slip_open, draft_open, taken, count_is}
@@ -48,7 +48,7 @@ module _ (m : Meaning) (d : Draft) (t : Tables) (s : sound d t ≡ true) where
 
   -- as many formulas as are known
   many : length (formulas_of t) ≡ length es
-  many = kept-length t.rows t.codes es (take t.count t.extents) (taken d t (parts d t s))
+  many = kept_length t.rows t.codes es (take t.count t.extents) (taken d t (parts d t s))
 
   -- enter, once its slip fits
   enter_is : (n k : ℕ) → slip_fits (draft_of d) k ≡ true → (S : List Sample)
@@ -65,20 +65,20 @@ module _ (m : Meaning) (d : Draft) (t : Tables) (s : sound d t ≡ true) where
       (reply (refused 6 None) (with_draft (state_with n d t) calls.shut) S))
 
   -- no lines, or too many formulas
-  pub enter-not : (not (none ls) && ltb t.count 64) ≡ false → Entered m d t (Err NotEnterable) d t
-  enter-not h = record {
+  pub enter_not : (not (none ls) && ltb t.count 64) ≡ false → Entered m d t (Err NotEnterable) d t
+  enter_not h = record {
     exact = λ n k f S. enter_is n k f S ∙ choose_no (not (none ls) && ltb t.count 64) _ _ h;
-    stays = dropped-sound d t s;
+    stays = dropped_sound d t s;
   }
 
   -- a refusal for the verdict
-  verdict-refused : (n : ℕ) (S : List Sample) (v : Verdict) (a : Answer) → refusal_of (known_in es) ps v ≡ Some a
+  verdict_refused : (n : ℕ) (S : List Sample) (v : Verdict) (a : Answer) → refusal_of (known_in es) ps v ≡ Some a
       → serve_verdict m (state_with n d t) S (record { parameters = ps; lines = ls }) v ≡ reply a (with_draft (state_with n d t) calls.shut) S
-  verdict-refused n S (refused_at q k) a e = ap (λ (z : Answer). reply z (with_draft (state_with n d t) calls.shut) S) (some_same e)
+  verdict_refused n S (refused_at q k) a e = ap (λ (z : Answer). reply z (with_draft (state_with n d t) calls.shut) S) (some_same e)
     where
       some_same : {X : Type 0} {x y : X} → Some x ≡ Some y → x ≡ y
       some_same z = cc
-  verdict-refused n S (all_typed rs) a e = go (cases_Bool (within_limits (entry_for (known_in es) ps rs)))
+  verdict_refused n S (all_typed rs) a e = go (cases_Bool (within_limits (entry_for (known_in es) ps rs)))
     where
       go : (within_limits (entry_for (known_in es) ps rs) ≡ true) ⊎ (within_limits (entry_for (known_in es) ps rs) ≡ false)
           → serve_verdict m (state_with n d t) S (record { parameters = ps; lines = ls }) (all_typed rs) ≡ reply a (with_draft (state_with n d t) calls.shut) S
@@ -90,16 +90,16 @@ module _ (m : Meaning) (d : Draft) (t : Tables) (s : sound d t ≡ true) where
           ∙ ap (λ (x : Answer). reply x (with_draft (state_with n d t) calls.shut) S) same
 
   -- the lines are refused, or the forecasts are beyond the limits
-  pub enter-refused : (u : Draft) (x : Refusal) → (not (none ls) && ltb t.count 64) ≡ true → DraftChecked m es d (Err x) u → Entered m d t (Err x) u t
-  enter-refused u x h c = record {
-    exact = λ n k f S. enter_is n k f S ∙ choose_yes (not (none ls) && ltb t.count 64) _ _ h ∙ verdict-refused n S (verdict m es ps [] ls) (answer_of x) c.told;
-    stays = ap (λ (z : Draft). sound (dropped z) t) c.same ∙ dropped_other d t u.rows (dropped-sound d t s) c.long;
+  pub enter_refused : (u : Draft) (x : Refusal) → (not (none ls) && ltb t.count 64) ≡ true → DraftChecked m es d (Err x) u → Entered m d t (Err x) u t
+  enter_refused u x h c = record {
+    exact = λ n k f S. enter_is n k f S ∙ choose_yes (not (none ls) && ltb t.count 64) _ _ h ∙ verdict_refused n S (verdict m es ps [] ls) (answer_of x) c.told;
+    stays = ap (λ (z : Draft). sound (dropped z) t) c.same ∙ dropped_other d t u.rows (dropped_sound d t s) c.long;
   }
 
   -- the draft is entered
-  pub enter-kept : (u : Draft) (e : Entry) (v : Tables) → (not (none ls) && ltb t.count 64) ≡ true → t.count < 64 → DraftChecked m es d (Ok e) u
+  pub enter_kept : (u : Draft) (e : Entry) (v : Tables) → (not (none ls) && ltb t.count 64) ≡ true → t.count < 64 → DraftChecked m es d (Ok e) u
       → v ≡ kept t e (take u.height u.rows) (take u.width u.codes) → Entered m d t (Ok t.count) u v
-  enter-kept u e v h few c is =
+  enter_kept u e v h few c is =
       let q = parts d t s in
       let long = q.long in
       let small = q.draft.few in
@@ -108,11 +108,11 @@ module _ (m : Meaning) (d : Draft) (t : Tables) (s : sound d t ≡ true) where
       let a = c.told in
       let f : theory.Formula = record { parameters = ps; lines = ls } in
       let v-is : v ≡ kept t e rows codes = is ∙ (λ i. kept t e (take (c.same i).height u.rows) (take (c.same i).width (c.same i).codes)) in
-      let own : coded d.width rows ≡ true = coded-given d.width rows (take d.height d.rows) c.given ∙ and_from (within d.width (take d.height d.rows)) _ q.draft.inside (eq-eqb _ _ q.draft.total) in
+      let own : coded d.width rows ≡ true = coded_given d.width rows (take d.height d.rows) c.given ∙ and_from (within d.width (take d.height d.rows)) _ q.draft.inside (eq-eqb _ _ q.draft.total) in
       let inside : within d.width rows ≡ true = (and_parts (within d.width rows) _ own).0 in
       let alike : take d.width codes ≡ take d.width d.codes = take-take d.width d.width d.codes (omega arith) in
-      let lines_are : lines_in codes rows ≡ ls = lines_same codes d.codes d.width rows alike inside ∙ lines-given d.codes rows (take d.height d.rows) c.given in
-      let plans-are : plans_in codes rows ≡ plans m (known_in es) [] 0 a.typed = plans-same codes d.codes d.width rows alike inside ∙ a.planned in
+      let lines_are : lines_in codes rows ≡ ls = lines_same codes d.codes d.width rows alike inside ∙ lines_given d.codes rows (take d.height d.rows) c.given in
+      let plans-are : plans_in codes rows ≡ plans m (known_in es) [] 0 a.typed = plans_same codes d.codes d.width rows alike inside ∙ a.planned in
       let tall : length rows ≡ d.height = length-take-le d.height u.rows (omega (arith, c.long)) in
       let wide : length codes ≡ d.width = length-take-le d.width d.codes (let w = q.codes in omega arith) in
       let kept-is : (n : ℕ) → kept_with e rows codes ≡ kept_as m (entry_at (state_with n d t)) f a.typed =
@@ -135,14 +135,14 @@ module _ (m : Meaning) (d : Draft) (t : Tables) (s : sound d t ≡ true) where
         stays =
             (λ i. sound (dropped (c.same i)) (v-is i))
             ∙ dropped_other d (kept t e rows codes) u.rows
-            (kept-sound d t e rows codes s few (let w = q.rows in omega arith) (let w = q.codes in omega arith) (ap (λ (k : ℕ). coded k rows) wide ∙ own)) c.long;
+            (kept_sound d t e rows codes s few (let w = q.rows in omega arith) (let w = q.codes in omega arith) (ap (λ (k : ℕ). coded k rows) wide ∙ own)) c.long;
       }
 
   -- ---- questions 6 and on, by the numbers of the draft and the tables
 
-  none-some : {X : Type 0} (xs : List X) → 0 < length xs → none xs ≡ false
-  none-some [] k = absurd (omega arith)
-  none-some (x ∷ xs) k = refl
+  none_some : {X : Type 0} (xs : List X) → 0 < length xs → none xs ≡ false
+  none_some [] k = absurd (omega arith)
+  none_some (x ∷ xs) k = refl
 
   -- there are lines, and a number is free
   pub asked_yes : 0 < d.height → t.count < 64 → (not (none ls) && ltb t.count 64) ≡ true
@@ -150,8 +150,8 @@ module _ (m : Meaning) (d : Draft) (t : Tables) (s : sound d t ≡ true) where
       let q = parts d t s in
       let long = q.long in
       let small = q.draft.few in
-      let tall : length ls ≡ d.height = lines-length d.codes (take d.height d.rows) ∙ length-take-le d.height d.rows (omega arith) in
-      and_from (not (none ls)) (ltb t.count 64) (ap not (none-some ls (omega arith))) (lt-ltb t.count 64 few)
+      let tall : length ls ≡ d.height = lines_length d.codes (take d.height d.rows) ∙ length-take-le d.height d.rows (omega arith) in
+      and_from (not (none ls)) (ltb t.count 64) (ap not (none_some ls (omega arith))) (lt-ltb t.count 64 few)
 
   -- there are none, or no number is free
   pub asked_no : (d.height ≡ 0) ⊎ (64 ≤ t.count) → (not (none ls) && ltb t.count 64) ≡ false

@@ -25,7 +25,7 @@ use Rattle.formulas.specs.Views.{draft_of, lines_in, kept_in, formulas_of}
 use Rattle.formulas.specs.Changes.{begun, grown, dropped, withdrawn_at, marked, absent}
 use Rattle.formulas.specs.Parameters.{KnownTypes}
 use Rattle.formulas.specs.Sound.{sound}
-use Rattle.formulas.proofs.Viewing.{lines-length, lines_codes, lines-grown, kept-length, kept_entry, kept_mark, kept-withdrawn, kept-lines, kept-codes}
+use Rattle.formulas.proofs.Viewing.{lines_length, lines_codes, lines_grown, kept_length, kept_entry, kept_mark, kept_withdrawn, kept_lines, kept_codes}
 use Rattle.formulas.proofs.Sounding.{parts, Parts}
 use Rattle.collection.specs.States.{state_with}
 use Rattle.collection.specs.Promises.{Serves, Entered, numbered}
@@ -92,14 +92,14 @@ count_is d t s =
     let p = parts d t s in
     let l = p.long in
     let f = p.tables.few in
-    kept-length t.rows t.codes (take t.count t.entries) (take t.count t.extents) (taken d t p) ∙ length-take-le t.count t.entries (omega arith)
+    kept_length t.rows t.codes (take t.count t.entries) (take t.count t.extents) (taken d t p) ∙ length-take-le t.count t.entries (omega arith)
 
 -- so a number that was given is below 64
 pub given_below : (d : Draft) (t : Tables) (g : ℕ) → sound d t ≡ true → ltb g (length (formulas_of t)) ≡ true → g < t.count
 given_below d t g s h = let b = ltb-true g (length (formulas_of t)) h in omega (arith, count_is d t s)
 
-pub given-few : (d : Draft) (t : Tables) (g : ℕ) → sound d t ≡ true → ltb g (length (formulas_of t)) ≡ true → g < 64
-given-few d t g s h = let b = given_below d t g s h in let f = (parts d t s).tables.few in omega arith
+pub given_few : (d : Draft) (t : Tables) (g : ℕ) → sound d t ≡ true → ltb g (length (formulas_of t)) ≡ true → g < 64
+given_few d t g s h = let b = given_below d t g s h in let f = (parts d t s).tables.few in omega arith
 
 -- space for one more line with so many codes, by the numbers of the draft and the tables
 abbrev pub space_for : Draft → Tables → ℕ → Bool
@@ -112,12 +112,12 @@ space_is n d t l s h =
     let long = p.long in
     let e = draft_open d h in
     let ls : List theory.Line = lines_in d.codes (take d.height d.rows) in
-    let height : length (draft_lines (draft_of d)) ≡ d.height = ap (λ (x : calls.Draft). length (draft_lines x)) e ∙ lines-length d.codes (take d.height d.rows) ∙ length-take-le d.height d.rows (let f = p.draft.few in omega arith) in
+    let height : length (draft_lines (draft_of d)) ≡ d.height = ap (λ (x : calls.Draft). length (draft_lines x)) e ∙ lines_length d.codes (take d.height d.rows) ∙ length-take-le d.height d.rows (let f = p.draft.few in omega arith) in
     let width : codes_in (draft_lines (draft_of d)) ≡ d.width = ap (λ (x : calls.Draft). codes_in (draft_lines x)) e ∙ lines_codes d.codes d.width (take d.height d.rows) (let f = p.codes in omega arith) p.draft.inside ∙ p.draft.total in
     let kept-rows : lines_kept (formulas_of t) ≡ t.height =
-    kept-lines t.rows t.codes t.height t.width (take t.count t.entries) (take t.count t.extents) (taken d t p) (let f = p.rows in omega (arith, long.rows)) p.tables.stand ∙ p.tables.rows in
+    kept_lines t.rows t.codes t.height t.width (take t.count t.entries) (take t.count t.extents) (taken d t p) (let f = p.rows in omega (arith, long.rows)) p.tables.stand ∙ p.tables.rows in
     let kept-width : codes_kept (formulas_of t) ≡ t.width =
-    kept-codes t.rows t.codes t.height t.width (take t.count t.entries) (take t.count t.extents) (taken d t p) (let f = p.codes in omega (arith, long.codes)) p.tables.stand ∙ p.tables.codes in
+    kept_codes t.rows t.codes t.height t.width (take t.count t.entries) (take t.count t.extents) (taken d t p) (let f = p.codes in omega (arith, long.codes)) p.tables.stand ∙ p.tables.codes in
     λ i. leb (height i + 1) 64 && (leb (kept-rows i + height i + 1) 1024 && leb (kept-width i + width i + length l.codes) 4096)
 
 module _ (m : Meaning) (formed : Formed m) (n : ℕ) (d : Draft) (t : Tables) (k : ℕ) (l : theory.Line) where
@@ -140,8 +140,8 @@ module _ (m : Meaning) (formed : Formed m) (n : ℕ) (d : Draft) (t : Tables) (k
         (λ S. choose_yes (slip_fits (draft_of d) k) _ _ h ∙ choose_yes (has_space (state_with n d t) l) _ _ (space ∙ f) ∙ choose_no (in_order m l) _ _ o)
 
     -- the line is added
-    pub line-done : (x : Fields) (e : Draft) → space_for d t (length l.codes) ≡ true → InOrder m l (Some x) → e ≡ grown d x l.codes → Serves m (state_with n d t) (line k l) (number d.height) (state_with n e t)
-    line-done x e f o is =
+    pub line_done : (x : Fields) (e : Draft) → space_for d t (length l.codes) ≡ true → InOrder m l (Some x) → e ≡ grown d x l.codes → Serves m (state_with n d t) (line k l) (number d.height) (state_with n e t)
+    line_done x e f o is =
         let p = parts d t s in
         let long = p.long in
         let here = draft_open d (slip_open d k h) in
@@ -149,11 +149,11 @@ module _ (m : Meaning) (formed : Formed m) (n : ℕ) (d : Draft) (t : Tables) (k
         let room = and_parts (leb (d.height + 1) 64) _ f in
         let few : d.height < 64 = ltb-true d.height 64 (ap (λ (i : ℕ). leb i 64) one ∙ room.0) in
         let lines_are : lines_in (grown d x l.codes).codes (take (d.height + 1) (grown d x l.codes).rows) ≡ old ++ l ∷ [] =
-        lines-grown d.rows d.height d.codes d.width x l.codes (omega arith) (let g = p.codes in omega arith) p.draft.inside ∙ ap (λ (z : theory.Line). old ++ z ∷ []) o.1 in
+        lines_grown d.rows d.height d.codes d.width x l.codes (omega arith) (let g = p.codes in omega arith) p.draft.inside ∙ ap (λ (z : theory.Line). old ++ z ∷ []) o.1 in
         let after : draft_of (grown d x l.codes) ≡ calls.added (draft_of d) l =
         ap (λ (b : Bool). cond b (opened d.serial (types_of (take d.count d.all)) (lines_in (grown d x l.codes).codes (take (d.height + 1) (grown d x l.codes).rows))) calls.shut) (slip_open d k h)
         ∙ ap (opened d.serial (types_of (take d.count d.all))) lines_are ∙ sym (ap (λ (z : calls.Draft). calls.added z l) here) in
-        let height : length (draft_lines (draft_of d)) ≡ d.height = ap (λ (z : calls.Draft). length (draft_lines z)) here ∙ lines-length d.codes (take d.height d.rows) ∙ length-take-le d.height d.rows (omega arith) in
+        let height : length (draft_lines (draft_of d)) ≡ d.height = ap (λ (z : calls.Draft). length (draft_lines z)) here ∙ lines_length d.codes (take d.height d.rows) ∙ length-take-le d.height d.rows (omega arith) in
         serves m formed (state_with n d t) (line k l) (number d.height) (state_with n e t)
         (λ S. choose_yes (slip_fits (draft_of d) k) _ _ h ∙ choose_yes (has_space (state_with n d t) l) _ _ (space ∙ f) ∙ choose_yes (in_order m l) _ _ o.0
         ∙ (λ i. reply (number (height i)) (record { serials = n; draft = (sym after ∙ ap draft_of (sym is)) i; formulas = formulas_of t; run = calls.absent }) S))
@@ -169,8 +169,8 @@ module _ (m : Meaning) (formed : Formed m) (n : ℕ) (d : Draft) (t : Tables) (k
   enter_wrong h = serves m formed (state_with n d t) (enter k) (refused 3 None) (state_with n d t) (λ S. choose_no (slip_fits (draft_of d) k) _ _ h)
 
   -- the draft was entered or refused, and is dropped
-  pub enter-done : (r : Result ℕ Refusal) (u : Draft) (v : Tables) (e : Draft) → slip_fits (draft_of d) k ≡ true → Entered m d t r u v → e ≡ dropped u → Serves m (state_with n d t) (enter k) (numbered r) (state_with n e v)
-  enter-done r u v e h is gone = serves m formed (state_with n d t) (enter k) (numbered r) (state_with n e v) (λ S. is.exact n k h S ∙ (λ i. reply (numbered r) (state_with n (sym gone i) v) S))
+  pub enter_done : (r : Result ℕ Refusal) (u : Draft) (v : Tables) (e : Draft) → slip_fits (draft_of d) k ≡ true → Entered m d t r u v → e ≡ dropped u → Serves m (state_with n d t) (enter k) (numbered r) (state_with n e v)
+  enter_done r u v e h is gone = serves m formed (state_with n d t) (enter k) (numbered r) (state_with n e v) (λ S. is.exact n k h S ∙ (λ i. reply (numbered r) (state_with n (sym gone i) v) S))
 
 -- ---- scrap
 
@@ -180,17 +180,17 @@ module _ (m : Meaning) (formed : Formed m) (n : ℕ) (d : Draft) (t : Tables) (k
   scrap_wrong h = serves m formed (state_with n d t) (scrap k) (refused 3 None) (state_with n d t) (λ S. choose_no (slip_fits (draft_of d) k) _ _ h)
 
   -- the draft is dropped
-  pub scrap-done : (e : Draft) → slip_fits (draft_of d) k ≡ true → e ≡ dropped d → Serves m (state_with n d t) (scrap k) ok (state_with n e t)
-  scrap-done e h is = serves m formed (state_with n d t) (scrap k) ok (state_with n e t) (λ S. choose_yes (slip_fits (draft_of d) k) _ _ h ∙ (λ i. reply ok (state_with n (sym is i) t) S))
+  pub scrap_done : (e : Draft) → slip_fits (draft_of d) k ≡ true → e ≡ dropped d → Serves m (state_with n d t) (scrap k) ok (state_with n e t)
+  scrap_done e h is = serves m formed (state_with n d t) (scrap k) ok (state_with n e t) (λ S. choose_yes (slip_fits (draft_of d) k) _ _ h ∙ (λ i. reply ok (state_with n (sym is i) t) S))
 
 -- ---- withdraw and entry
 
 -- the first of a list that was changed at one place
-take-set : {X : Type 0} (k : ℕ) (xs : List X) (i : ℕ) (y : X) → take k (set xs i y) ≡ set (take k xs) i y
-take-set zero xs i y = refl
-take-set (suc k) [] i y = refl
-take-set (suc k) (x ∷ xs) zero y = refl
-take-set (suc k) (x ∷ xs) (suc i) y = ap (λ (zs : List _). x ∷ zs) (take-set k xs i y)
+take_set : {X : Type 0} (k : ℕ) (xs : List X) (i : ℕ) (y : X) → take k (set xs i y) ≡ set (take k xs) i y
+take_set zero xs i y = refl
+take_set (suc k) [] i y = refl
+take_set (suc k) (x ∷ xs) zero y = refl
+take_set (suc k) (x ∷ xs) (suc i) y = ap (λ (zs : List _). x ∷ zs) (take_set k xs i y)
 
 module _ (d : Draft) (t : Tables) (s : sound d t ≡ true) (g : ℕ) (h : g < t.count) where
   -- what is known of a number
@@ -222,17 +222,17 @@ module _ (d : Draft) (t : Tables) (s : sound d t ≡ true) (g : ℕ) (h : g < t.
       let es : List Entry = take t.count t.entries in
       let known = length-take-le t.count t.entries (omega arith) in
       ap (λ (zs : List Entry). kept_in t.rows t.codes zs (take t.count t.extents))
-      (take-set t.count t.entries g (marked (get_or t.entries g absent)) ∙ ap (λ (x : Entry). set es g (marked x)) (sym (get_or-take t.count t.entries g absent h)))
-      ∙ kept-withdrawn t.rows t.codes es (take t.count t.extents) g (taken d t p) (omega arith)
+      (take_set t.count t.entries g (marked (get_or t.entries g absent)) ∙ ap (λ (x : Entry). set es g (marked x)) (sym (get_or-take t.count t.entries g absent h)))
+      ∙ kept_withdrawn t.rows t.codes es (take t.count t.extents) g (taken d t p) (omega arith)
 
 module _ (m : Meaning) (formed : Formed m) (n : ℕ) (d : Draft) (t : Tables) (g : ℕ) where
   -- the number is not in use
-  pub withdraw-not : in_use (state_with n d t) g ≡ false → Serves m (state_with n d t) (withdraw g) (refused 15 None) (state_with n d t)
-  withdraw-not h = serves m formed (state_with n d t) (withdraw g) (refused 15 None) (state_with n d t) (λ S. choose_no (in_use (state_with n d t) g) _ _ h)
+  pub withdraw_not : in_use (state_with n d t) g ≡ false → Serves m (state_with n d t) (withdraw g) (refused 15 None) (state_with n d t)
+  withdraw_not h = serves m formed (state_with n d t) (withdraw g) (refused 15 None) (state_with n d t) (λ S. choose_no (in_use (state_with n d t) g) _ _ h)
 
   -- the number is withdrawn
-  pub withdraw-done : (u : Tables) → sound d t ≡ true → in_use (state_with n d t) g ≡ true → u ≡ withdrawn_at t g → Serves m (state_with n d t) (withdraw g) ok (state_with n d u)
-  withdraw-done u s h is =
+  pub withdraw_done : (u : Tables) → sound d t ≡ true → in_use (state_with n d t) g ≡ true → u ≡ withdrawn_at t g → Serves m (state_with n d t) (withdraw g) ok (state_with n d u)
+  withdraw_done u s h is =
       let both = and_parts (ltb g (length (formulas_of t))) _ h in
       let below : g < t.count = given_below d t g s both.0 in
       serves m formed (state_with n d t) (withdraw g) ok (state_with n d u)
@@ -240,8 +240,8 @@ module _ (m : Meaning) (formed : Formed m) (n : ℕ) (d : Draft) (t : Tables) (g
       ∙ (λ i. reply ok (record { serials = n; draft = draft_of d; formulas = (sym (withdrawn_is d t s g below) ∙ ap formulas_of (sym is)) i; run = calls.absent }) S))
 
   -- the number was not given
-  pub entry-not : ltb g (length (formulas_of t)) ≡ false → Serves m (state_with n d t) (entry g) (refused 23 None) (state_with n d t)
-  entry-not h = serves m formed (state_with n d t) (entry g) (refused 23 None) (state_with n d t) (λ S. choose_no (ltb g (length (formulas_of t))) _ _ h)
+  pub entry_not : ltb g (length (formulas_of t)) ≡ false → Serves m (state_with n d t) (entry g) (refused 23 None) (state_with n d t)
+  entry_not h = serves m formed (state_with n d t) (entry g) (refused 23 None) (state_with n d t) (λ S. choose_no (ltb g (length (formulas_of t))) _ _ h)
 
   -- what is known is told
   pub entry_done : sound d t ≡ true → ltb g (length (formulas_of t)) ≡ true

@@ -1,4 +1,6 @@
 // The collection of formulas and its public calls.
+#![tactic(auto)]
+
 mod calls;
 mod entries;
 mod holdings;

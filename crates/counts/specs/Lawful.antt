@@ -10,7 +10,7 @@ use Rattle.counts.specs.declared.Value.{Value}
 use Rattle.counts.specs.declared.Value.TheVariants.{Count, Flag}
 use Rattle.counts.specs.Tables.{flag, counts, holds, wrapped}
 use Rattle.counts.specs.Denoted.{sampled}
-use Rattle.counts.specs.Wraps.{wrapped-small}
+use Rattle.counts.specs.Wraps.{wrapped_small}
 
 -- A flag's code is one.
 flag_held : (b : Bool) → holds 1 (flag b) ≡ true
@@ -19,15 +19,15 @@ flag_held false = refl
 
 -- A wrapped number is a code of a count.
 wrapped_held : (z : ℤ) → holds 0 (wrapped z) ≡ true
-wrapped_held z = lt-ltb (wrapped z) (2 ^ 32) (wrapped-small z)
+wrapped_held z = lt-ltb (wrapped z) (2 ^ 32) (wrapped_small z)
 
 -- A code that a base type holds is below 2^64.
-code-small : (b c : ℕ) → holds b c ≡ true → c < 2 ^ 64
-code-small b c h = grind (arith, nat_tests)
+code_small : (b c : ℕ) → holds b c ≡ true → c < 2 ^ 64
+code_small b c h = grind (arith, nat_tests)
 
 -- Only base types 0 and 1 hold codes.
-base-known : (b c : ℕ) → holds b c ≡ true → b < 2
-base-known b c h = grind (arith, nat_tests)
+base_known : (b c : ℕ) → holds b c ≡ true → b < 2
+base_known b c h = grind (arith, nat_tests)
 
 -- The operands of the nine operators are of base types 0 and 1.
 known : (op : ℕ) → op < 9 → Known 2 (counts.operator op).operands
@@ -44,8 +44,8 @@ formed = record {
   few_bases = omega arith;
   some_operators = omega arith;
   few_operators = omega arith;
-  codes_small = code-small;
-  bases_known = base-known;
+  codes_small = code_small;
+  bases_known = base_known;
   some_operands = each (λ op. 1 ≤ length (counts.operator op).operands) (omega arith) (omega arith) (omega arith) (omega arith) (omega arith) (omega arith) (omega arith) (omega arith) (omega arith);
   few_operands = each (λ op. length (counts.operator op).operands ≤ 3) (omega arith) (omega arith) (omega arith) (omega arith) (omega arith) (omega arith) (omega arith) (omega arith) (omega arith);
   operand_known = λ op k h l. known_at 2 _ (known op h) k l;

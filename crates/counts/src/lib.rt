@@ -1,4 +1,6 @@
 // The algebra of counts: 32-bit two's complement numbers and flags.
+#![tactic(auto)]
+
 ghost use Rattle.std.specs.Prelude.{◌≡◌, ◌≢◌};
 ghost use Rattle.remora.specs.Algebras.{applied, applying};
 ghost use Rattle.algebra.specs.Promises.{samples, answered};

@@ -1,4 +1,6 @@
 // The program `formulary`: reads the counts of one trace from a file, or from standard input, and prints its summary.
+#![tactic(auto)]
+
 ghost use Rattle.std.specs.Prelude.{◌≡◌};
 ghost use Rattle.formulary.specs.Sources.{source_of, name_of};
 

@@ -1,4 +1,6 @@
 // The program `formulary`: reads session scripts, makes the calls that they name, and prints the answers.
+#![tactic(auto)]
+
 use lines::Line;
 use scripts::{AlgebraName, Codes, Command, LineFields, read_command, read_numbers};
 use sessions::{Session, Told, Trouble};

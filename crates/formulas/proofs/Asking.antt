@@ -37,9 +37,9 @@ base_step ts base os i t r b h t-is is e =
     each_here (λ o. eqb (type_at (types_of ts) o).base base) (same_base (types_of ts) base) (λ x xs. refl) os i r b h (is ∙ ap (λ (u : theory.ArrayType). eqb u.base base) t-is) e
 
 -- operand i, of type t, has the shape, or not
-pub shape-step : (ts : List ArrayType) (s : List ℕ) (os : List ℕ) (i : ℕ) (t : ArrayType) (r b : Bool) → i < length os → array_type t ≡ type_at (types_of ts) (get_or os i 0) → r ≡ same (dims t.shape) s → r ≡ b
+pub shape_step : (ts : List ArrayType) (s : List ℕ) (os : List ℕ) (i : ℕ) (t : ArrayType) (r b : Bool) → i < length os → array_type t ≡ type_at (types_of ts) (get_or os i 0) → r ≡ same (dims t.shape) s → r ≡ b
     → same_shape (types_of ts) s (drop i os) ≡ (b && same_shape (types_of ts) s (drop (i + 1) os))
-shape-step ts s os i t r b h t-is is e =
+shape_step ts s os i t r b h t-is is e =
     each_here (λ o. same (type_at (types_of ts) o).shape s) (same_shape (types_of ts) s) (λ x xs. refl) os i r b h (is ∙ ap (λ (u : theory.ArrayType). same u.shape s) t-is) e
 
 -- what a read past the end of the code's types stands for
@@ -88,9 +88,9 @@ frames_snoc ts (u ∷ ws) (x ∷ os) w o e = ap (λ (fs : List (List ℕ)). fram
 abbrev pub frames_to : List ArrayType → List ArrayType → List ℕ → ℕ → List (List ℕ)
 frames_to ts ws os i = frames (types_of ts) (types_of (take i ws)) (take i os)
 
-pub frames-more : (ts ws : List ArrayType) (os : List ℕ) (i : ℕ) (t : ArrayType) → i < length os → i < length ws → array_type t ≡ type_at (types_of ts) (get_or os i 0)
+pub frames_more : (ts ws : List ArrayType) (os : List ℕ) (i : ℕ) (t : ArrayType) → i < length os → i < length ws → array_type t ≡ type_at (types_of ts) (get_or os i 0)
     → frames_to ts ws os (i + 1) ≡ frames_to ts ws os i ++ frame_of (dims (get_or ws i absent).shape) (dims t.shape) ∷ []
-frames-more ts ws os i t h k is =
+frames_more ts ws os i t h k is =
     ap (λ (us : List ArrayType). frames (types_of ts) (types_of us) (take (i + 1) os)) (take_more ws i absent k)
     ∙ ap (λ (us : List theory.ArrayType). frames (types_of ts) us (take (i + 1) os)) (map-append array_type (take i ws) (get_or ws i absent ∷ []))
     ∙ ap (frames (types_of ts) (types_of (take i ws) ++ array_type (get_or ws i absent) ∷ [])) (take_more os i 0 h)
@@ -98,26 +98,26 @@ frames-more ts ws os i t h k is =
     (length-map (take i ws) array_type ∙ length-take-le i ws (omega arith) ∙ sym (length-take-le i os (omega arith)))
     ∙ ap (λ (u : theory.ArrayType). frames_to ts ws os i ++ frame_of (dims (get_or ws i absent).shape) u.shape ∷ []) (sym is)
 
-frames-split : (ts ws : List theory.ArrayType) (os : List ℕ) (n : ℕ) → frames ts ws os ≡ frames ts (take n ws) (take n os) ++ frames ts (drop n ws) (drop n os)
-frames-split ts ws os zero = refl
-frames-split ts [] os (suc n) = refl
-frames-split ts (w ∷ ws) [] (suc n) = none (drop n ws)
+frames_split : (ts ws : List theory.ArrayType) (os : List ℕ) (n : ℕ) → frames ts ws os ≡ frames ts (take n ws) (take n os) ++ frames ts (drop n ws) (drop n os)
+frames_split ts ws os zero = refl
+frames_split ts [] os (suc n) = refl
+frames_split ts (w ∷ ws) [] (suc n) = none (drop n ws)
   where
     none : (us : List theory.ArrayType) → [] ≡ frames ts us []
     none [] = refl
     none (u ∷ us) = refl
-frames-split ts (w ∷ ws) (o ∷ os) (suc n) = ap (λ (fs : List (List ℕ)). frame_of w.shape (type_at ts o).shape ∷ fs) (frames-split ts ws os n)
+frames_split ts (w ∷ ws) (o ∷ os) (suc n) = ap (λ (fs : List (List ℕ)). frame_of w.shape (type_at ts o).shape ∷ fs) (frames_split ts ws os n)
 
 -- all frames are the first i and the rest
-pub frames-all : (ts ws : List ArrayType) (os : List ℕ) (i : ℕ) → (rest : List (List ℕ)) × (frames (types_of ts) (types_of ws) os ≡ frames_to ts ws os i ++ rest)
-frames-all ts ws os i = (
+pub frames_all : (ts ws : List ArrayType) (os : List ℕ) (i : ℕ) → (rest : List (List ℕ)) × (frames (types_of ts) (types_of ws) os ≡ frames_to ts ws os i ++ rest)
+frames_all ts ws os i = (
   frames (types_of ts) (drop i (types_of ws)) (drop i os),
-  frames-split (types_of ts) (types_of ws) os i ∙ ap (λ (us : List theory.ArrayType). frames (types_of ts) us (take i os) ++ frames (types_of ts) (drop i (types_of ws)) (drop i os)) (take-map array_type i ws),
+  frames_split (types_of ts) (types_of ws) os i ∙ ap (λ (us : List theory.ArrayType). frames (types_of ts) us (take i os) ++ frames (types_of ts) (drop i (types_of ws)) (drop i os)) (take-map array_type i ws),
 )
 
 -- past the last operand, or the last that is wanted, the first i frames are all
-pub frames-end : (ts ws : List ArrayType) (os : List ℕ) (i : ℕ) → min (length os) (length ws) ≤ i → frames_to ts ws os i ≡ frames (types_of ts) (types_of ws) os
-frames-end ts ws os i h = sym (frames-split (types_of ts) (types_of ws) os i ∙ ap (λ (us : List theory.ArrayType). frames (types_of ts) us (take i os) ++ frames (types_of ts) (drop i (types_of ws)) (drop i os)) (take-map array_type i ws)
+pub frames_end : (ts ws : List ArrayType) (os : List ℕ) (i : ℕ) → min (length os) (length ws) ≤ i → frames_to ts ws os i ≡ frames (types_of ts) (types_of ws) os
+frames_end ts ws os i h = sym (frames_split (types_of ts) (types_of ws) os i ∙ ap (λ (us : List theory.ArrayType). frames (types_of ts) us (take i os) ++ frames (types_of ts) (drop i (types_of ws)) (drop i os)) (take-map array_type i ws)
     ∙ ap (λ (fs : List (List ℕ)). frames_to ts ws os i ++ fs) (go (cases_lt i (length os))) ∙ append-nil (frames_to ts ws os i))
   where
     none : (us : List theory.ArrayType) → frames (types_of ts) us [] ≡ []
@@ -133,15 +133,15 @@ agree_with_front : (f : List ℕ) (fs gs : List (List ℕ)) → agree_with f (fs
 agree_with_front f [] gs e = refl
 agree_with_front f (g ∷ fs) gs e = let u = and_parts (comparable f g) (agree_with f (fs ++ gs)) e in and_from _ _ u.0 (agree_with_front f fs gs u.1)
 
-agree-front : (fs gs : List (List ℕ)) → agree (fs ++ gs) ≡ true → agree fs ≡ true
-agree-front [] gs e = refl
-agree-front (f ∷ fs) gs e = let u = and_parts (agree_with f (fs ++ gs)) (agree (fs ++ gs)) e in and_from _ _ (agree_with_front f fs gs u.0) (agree-front fs gs u.1)
+agree_front : (fs gs : List (List ℕ)) → agree (fs ++ gs) ≡ true → agree fs ≡ true
+agree_front [] gs e = refl
+agree_front (f ∷ fs) gs e = let u = and_parts (agree_with f (fs ++ gs)) (agree (fs ++ gs)) e in and_from _ _ (agree_with_front f fs gs u.0) (agree_front fs gs u.1)
 
-pub agree-not : (fs gs hs : List (List ℕ)) → hs ≡ fs ++ gs → agree fs ≡ false → agree hs ≡ false
-agree-not fs gs hs e n = go (agree hs) refl
+pub agree_not : (fs gs hs : List (List ℕ)) → hs ≡ fs ++ gs → agree fs ≡ false → agree hs ≡ false
+agree_not fs gs hs e n = go (agree hs) refl
   where
     go : (b : Bool) → agree hs ≡ b → b ≡ false
-    go true a = absurd (both_ways (agree fs) n (agree-front fs gs (ap agree (sym e) ∙ a)))
+    go true a = absurd (both_ways (agree fs) n (agree_front fs gs (ap agree (sym e) ∙ a)))
     go false a = refl
 
 -- ---- one frame joined to those before
@@ -164,10 +164,10 @@ module _ (fs : List (List ℕ)) (f p g q : List ℕ) (b : Bool) (a : agree fs �
 
 -- ---- the type of an operand
 
-pub type-within : (ts : List ArrayType) (o : ℕ) (d : ArrayType) → o < length ts → array_type (get_or ts o d) ≡ type_at (types_of ts) o
-type-within [] o d h = absurd (omega arith)
-type-within (t ∷ ts) zero d h = refl
-type-within (t ∷ ts) (suc o) d h = type-within ts o d (omega arith)
+pub type_within : (ts : List ArrayType) (o : ℕ) (d : ArrayType) → o < length ts → array_type (get_or ts o d) ≡ type_at (types_of ts) o
+type_within [] o d h = absurd (omega arith)
+type_within (t ∷ ts) zero d h = refl
+type_within (t ∷ ts) (suc o) d h = type_within ts o d (omega arith)
 
 pub type_beyond : (ts : List ArrayType) (o : ℕ) → length ts ≤ o → theory.no_type ≡ type_at (types_of ts) o
 type_beyond [] o h = refl

@@ -1,4 +1,6 @@
 // Drafts and formulas: lines as they are handed over, the reasons for a refusal, and what a line and its operands are asked.
+#![tactic(auto)]
+
 mod contents;
 mod lines;
 mod operands;

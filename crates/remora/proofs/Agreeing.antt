@@ -70,9 +70,9 @@ later_refl fs = ([], refl)
 pub later_trans : (fs gs hs : List Formula) → Later fs gs → Later gs hs → Later fs hs
 later_trans fs gs hs o p = (p.0 ++ o.0, p.1 ∙ ap (λ (z : List Formula). p.0 ++ z) o.1 ∙ sym (append_assoc p.0 o.0 fs))
 
-pick-later : (fs : List Formula) (b : Bool) (r s : Reading) → Later fs r.formulas → Later fs s.formulas → Later fs (pick b r s).formulas
-pick-later fs true r s h k = h
-pick-later fs false r s h k = k
+pick_later : (fs : List Formula) (b : Bool) (r s : Reading) → Later fs r.formulas → Later fs s.formulas → Later fs (pick b r s).formulas
+pick_later fs true r s h k = h
+pick_later fs false r s h k = k
 
 by_answer_lem : {Z : Type 0} (P : Z → Type 0) (a : Answer) (f : ℕ → Option ℕ → Z) (g : ℕ → Z) (x y : Z) → ((n : ℕ) (l : Option ℕ) → P (f n l)) → ((k : ℕ) → P (g k)) → P x → P y → P (by_answer a f g x y)
 by_answer_lem P (refused n l) f g x y p q u v = p n l
@@ -84,33 +84,33 @@ by_answer_lem P is_done f g x y p q u v = v
 by_answer_lem P (fault e h l c) f g x y p q u v = v
 by_answer_lem P (wrote cs) f g x y p q u v = v
 
-refused-later : (r : Reading) (n : ℕ) (l : Option ℕ) → Later r.formulas (read_refused r n l).formulas
-refused-later r n None = pick-later r.formulas (eqb n 3) r (drafted r shut) (later_refl _) (later_refl _)
-refused-later r n (Some l) = later_refl _
+refused_later : (r : Reading) (n : ℕ) (l : Option ℕ) → Later r.formulas (read_refused r n l).formulas
+refused_later r n None = pick_later r.formulas (eqb n 3) r (drafted r shut) (later_refl _) (later_refl _)
+refused_later r n (Some l) = later_refl _
 
-pub read-later : (r : Reading) (c : Call) (a : Answer) → Later r.formulas (read_call r c a).formulas
-read-later r (open' ps) a = by_answer_lem (λ (x : Reading). Later r.formulas x.formulas) a (λ n l. r) (λ k. drafted r (opened k ps [])) r r (λ n l. later_refl _) (λ k. later_refl _) (later_refl _) (later_refl _)
-read-later r (line k x) a = by_answer_lem (λ (y : Reading). Later r.formulas y.formulas) a (λ n l. r) (λ k. drafted r (added r.draft x)) r r (λ n l. later_refl _) (λ k. later_refl _) (later_refl _) (later_refl _)
-read-later r (enter k) a =
+pub read_later : (r : Reading) (c : Call) (a : Answer) → Later r.formulas (read_call r c a).formulas
+read_later r (open' ps) a = by_answer_lem (λ (x : Reading). Later r.formulas x.formulas) a (λ n l. r) (λ k. drafted r (opened k ps [])) r r (λ n l. later_refl _) (λ k. later_refl _) (later_refl _) (later_refl _)
+read_later r (line k x) a = by_answer_lem (λ (y : Reading). Later r.formulas y.formulas) a (λ n l. r) (λ k. drafted r (added r.draft x)) r r (λ n l. later_refl _) (λ k. later_refl _) (later_refl _) (later_refl _)
+read_later r (enter k) a =
     by_answer_lem (λ (x : Reading). Later r.formulas x.formulas) a (read_refused r) (λ i. record { draft = shut; formulas = draft_formula r.draft ∷ r.formulas; withdrawn = r.withdrawn }) r r
-    (refused-later r) (λ i. (draft_formula r.draft ∷ [], refl)) (later_refl _) (later_refl _)
-read-later r (scrap k) a = by_answer_lem (λ (x : Reading). Later r.formulas x.formulas) a (λ n l. r) (λ i. r) (drafted r shut) r (λ n l. later_refl _) (λ i. later_refl _) (later_refl _) (later_refl _)
-read-later r (withdraw k) a =
+    (refused_later r) (λ i. (draft_formula r.draft ∷ [], refl)) (later_refl _) (later_refl _)
+read_later r (scrap k) a = by_answer_lem (λ (x : Reading). Later r.formulas x.formulas) a (λ n l. r) (λ i. r) (drafted r shut) r (λ n l. later_refl _) (λ i. later_refl _) (later_refl _) (later_refl _)
+read_later r (withdraw k) a =
     by_answer_lem (λ (x : Reading). Later r.formulas x.formulas) a (λ n l. r) (λ i. r) (record { draft = r.draft; formulas = r.formulas; withdrawn = k ∷ r.withdrawn }) r
     (λ n l. later_refl _) (λ i. later_refl _) (later_refl _) (later_refl _)
-read-later r (entry g) a = later_refl _
-read-later r (begin g cs) a = later_refl _
-read-later r step' a = later_refl _
-read-later r (result k) a = later_refl _
-read-later r close a = later_refl _
+read_later r (entry g) a = later_refl _
+read_later r (begin g cs) a = later_refl _
+read_later r step' a = later_refl _
+read_later r (result k) a = later_refl _
+read_later r close a = later_refl _
 
-pub reads-later : (r : Reading) (h : List Event) → Later r.formulas (read_from r h).formulas
-reads-later r [] = later_refl _
-reads-later r (event c a ∷ h) = later_trans _ _ _ (read-later r c a) (reads-later (read_call r c a) h)
+pub reads_later : (r : Reading) (h : List Event) → Later r.formulas (read_from r h).formulas
+reads_later r [] = later_refl _
+reads_later r (event c a ∷ h) = later_trans _ _ _ (read_later r c a) (reads_later (read_call r c a) h)
 
-pub read-append : (r : Reading) (h k : List Event) → read_from r (h ++ k) ≡ read_from (read_from r h) k
-read-append r [] k = refl
-read-append r (event c a ∷ h) k = read-append (read_call r c a) h k
+pub read_append : (r : Reading) (h k : List Event) → read_from r (h ++ k) ≡ read_from (read_from r h) k
+read_append r [] k = refl
+read_append r (event c a ∷ h) k = read_append (read_call r c a) h k
 
 -- ---- the state agrees with the reading
 
@@ -156,9 +156,9 @@ all_any m n E usable ps types ls rs (and_line {l = l} {ls = ls'} {r = r} {rs = r
 
 module _ (m : Meaning) where
   -- judging by the state is judging by the reading
-  pub judged-alike : (r : Reading) (s : State) → Agrees m r s → (ps : List ArrayType) (ls : List Line)
+  pub judged_alike : (r : Reading) (s : State) → Agrees m r s → (ps : List ArrayType) (ls : List Line)
       → judge m (length s.formulas) (entry_at s) (usable_at s) ps [] ls ≡ judge m (length r.formulas) (known m r.formulas) (λ g. not (member g r.withdrawn)) ps [] ls
-  judged-alike r s a ps ls =
+  judged_alike r s a ps ls =
       ap (λ (n : ℕ). judge m n (entry_at s) (usable_at s) ps [] ls) a.count
       ∙ ap (λ (E : ℕ → Entry). judge m (length r.formulas) E (usable_at s) ps [] ls) (everywhere (entry_at s) (known m r.formulas) a.entries)
       ∙ ap (λ (u : ℕ → Bool). judge m (length r.formulas) (known m r.formulas) u ps [] ls) (everywhere (usable_at s) (λ g. not (member g r.withdrawn)) (λ g. ap not (a.marks g)))
@@ -241,7 +241,7 @@ module _ (m : Meaning) where
   enter_agrees r s S k a =
       choose_cases (Kept-by r (enter k)) (slip_fits s.draft k) _ _
       (λ y. choose_cases (Kept-by r (enter k)) (not (none (draft_lines s.draft)) && ltb (length s.formulas) 64) _ _
-      (λ z. verdict_agrees r s S k _ a (sym (judged-alike r s a (draft_parameters s.draft) (draft_lines s.draft))))
+      (λ z. verdict_agrees r s S k _ a (sym (judged_alike r s a (draft_parameters s.draft) (draft_lines s.draft))))
       (λ z. redraft m r s s.serials shut a))
       (λ y. a)
 

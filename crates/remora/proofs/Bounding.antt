@@ -12,8 +12,8 @@ use Rattle.remora.specs.Histories.{Event, event, Leads, Reading, unread, read_ca
 use Rattle.remora.proofs.Regions.{Same, put_same}
 use Rattle.remora.proofs.Running.{store_of, activations_of, Plans, Runs, stay, move, goods_all}
 use Rattle.remora.proofs.Sizes.{typed_sounds}
-use Rattle.remora.proofs.Agreeing.{asked_cases, Later, later_refl, later_trans, read-later, Agrees, agrees_empty, event_agrees}
-use Rattle.remora.proofs.Following.{Ok, plans-ok, entry-same, begin-ends, Ending, step-reply, About, steps, begins, results, closes, others, about, length-samples, snapshot_is}
+use Rattle.remora.proofs.Agreeing.{asked_cases, Later, later_refl, later_trans, read_later, Agrees, agrees_empty, event_agrees}
+use Rattle.remora.proofs.Following.{Ok, plans_ok, entry_same, begin_ends, Ending, step_reply, About, steps, begins, results, closes, others, about, length_samples, snapshot_is}
 
 module _ (m : Meaning) (formed : Formed m) where
   -- the step that ends a run answers done, or a fault that writes only within reach
@@ -59,7 +59,7 @@ module _ (m : Meaning) (formed : Formed m) where
   owed_still : (r : Reading) (s : State) (S : List Sample) (c : Call) → ((serve m s S c).state.run ≡ s.run) × ((serve m s S c).store ≡ S) → RunFine r S s.run → Owed r c S (serve m s S c)
   owed_still r s S c k f = (
     subst (λ (T : List Sample). RunFine (read_call r c (serve m s S c).answer) T (serve m s S c).state.run) (sym k.1)
-        (subst (RunFine (read_call r c (serve m s S c).answer) S) (sym k.0) (fine_later r (read_call r c (serve m s S c).answer) S s.run (read-later r c _) f)),
+        (subst (RunFine (read_call r c (serve m s S c).answer) S) (sym k.0) (fine_later r (read_call r c (serve m s S c).answer) S s.run (read_later r c _) f)),
     untouched_same S (serve m s S c) k.1,
   )
 
@@ -95,34 +95,34 @@ module _ (m : Meaning) (formed : Formed m) where
           let len' : length cs ≡ parameter_atoms (known m fs g).parameters = len ∙ ap (λ (x : Entry). parameter_atoms x.parameters) x_is in
           let right' : codes_fit m.holds (known m fs g).parameters cs ≡ true = ap (λ (x : Entry). codes_fit m.holds x.parameters cs) (sym x_is) ∙ right in
           let room' : needs (known m fs g) ≤ length S = subst (λ (x : Entry). needs x ≤ length S) x_is room in
-          let long = length-samples (known m fs g).parameters cs len' in
+          let long = length_samples (known m fs g).parameters cs len' in
           let put_is = put_same 0 (needs (known m fs g)) S 0 (samples_for (known m fs g).parameters cs) (omega arith) (omega arith) (omega arith) in
           let same_length = put_is.long in
-          let story = begin-ends m formed fs g l a.typed S cs len' right' room' in (
+          let story = begin_ends m formed fs g l a.typed S cs len' right' room' in (
             subst (λ (x : Entry). Working r (put S 0 (samples_for x.parameters cs)) g (first_activation x g ∷ [])) (sym x_is)
                 (working r (put S 0 (samples_for (known m fs g).parameters cs)) fs g l _ (first_activation (known m fs g) g ∷ []) (outcome m fs g cs) (later_refl fs) (omega arith) (some_depth fs g l a.typed) (depth_small (known m fs g) (a.within g l)) story.1),
             subst (λ (x : Entry). Untouched S (reply (number (entry_at s g).steps) (with_run s (going g (first_activation (entry_at s g) g ∷ []))) (put S 0 (samples_for x.parameters cs)))) (sym x_is)
                 (record { behind = subst (λ (x : Entry). drop (needs x) (put S 0 (samples_for (known m fs g).parameters cs)) ≡ drop (needs x) S) (sym x_is) put_is.high; long = same_length }),
           )
 
-  progressed-step : (s : State) (S : List Sample) (g : ℕ) (x : Snapshot) → progressed s S g (more x) ≡ reply goes_on (with_run s (going g (activations_of x))) (store_of x)
-  progressed-step s S g (at T ts) = refl
+  progressed_step : (s : State) (S : List Sample) (g : ℕ) (x : Snapshot) → progressed s S g (more x) ≡ reply goes_on (with_run s (going g (activations_of x))) (store_of x)
+  progressed_step s S g (at T ts) = refl
 
-  progressed-broken : (s : State) (S : List Sample) (g : ℕ) (x : Snapshot) (y : Fault Sample) → progressed s S g (faulted x y) ≡ reply (fault y.cause y.formula y.line y.cell) (with_run s (broken g)) (store_of x)
-  progressed-broken s S g (at T ts) y = refl
+  progressed_broken : (s : State) (S : List Sample) (g : ℕ) (x : Snapshot) (y : Fault Sample) → progressed s S g (faulted x y) ≡ reply (fault y.cause y.formula y.line y.cell) (with_run s (broken g)) (store_of x)
+  progressed_broken s S g (at T ts) y = refl
 
   -- a step from a run at work
   owed_going : (r : Reading) (s : State) (S : List Sample) (g : ℕ) (ts : List Activation) → s.run ≡ going g ts → Agrees m r s → (w : Working r S g ts) → Owed r step' S (serve m s S step')
   owed_going r s S g ts u a w = go w.left w.last w.runs w.ends
     where
       x_is : entry_at s g ≡ known m w.formulas g
-      x_is = entry-same m formed w.formulas g w.entered r s a w.later
+      x_is = entry_same m formed w.formulas g w.entered r s a w.later
 
       base : serve m s S step' ≡ progressed s S g (step m (plan_at s) (at S ts))
-      base = step-reply m formed w.formulas g w.entered r s S (at S ts) a w.later u refl w.room
+      base = step_reply m formed w.formulas g w.entered r s S (at S ts) a w.later u refl w.room
 
       plans_fit : Ok m formed w.formulas g w.entered (plan_at s)
-      plans_fit = plans-ok m formed w.formulas g w.entered r s a w.later
+      plans_fit = plans_ok m formed w.formulas g w.entered r s a w.later
 
       untouched : (b : Answer) (v : Run) (T : List Sample) → reach (with_run s v) v ≡ needs (entry_at s g) → Same 0 (needs (known m w.formulas g)) S T → Untouched S (reply b (with_run s v) T)
       untouched b v T e k =
@@ -136,10 +136,10 @@ module _ (m : Meaning) (formed : Formed m) where
           subst (Owed r step' S) (sym z) (tt, untouched is_done (finished g q) S refl (record { low = refl; high = refl; long = refl }))
       go j last stay (inr (after, x, e, k)) =
           let z : serve m s S step' ≡ reply (fault x.cause x.formula x.line x.cell) (with_run s (broken g)) (store_of after) =
-          base ∙ ap (progressed s S g) (e (plan_at s) plans_fit) ∙ progressed-broken s S g after x in
+          base ∙ ap (progressed s S g) (e (plan_at s) plans_fit) ∙ progressed_broken s S g after x in
           subst (Owed r step' S) (sym z) (tt, untouched _ (broken g) (store_of after) refl k)
       go j last (move {n = n} {t = t} e same few runs) ends =
-          let z : serve m s S step' ≡ reply goes_on (with_run s (going g (activations_of t))) (store_of t) = base ∙ ap (progressed s S g) (e (plan_at s) plans_fit) ∙ progressed-step s S g t in
+          let z : serve m s S step' ≡ reply goes_on (with_run s (going g (activations_of t))) (store_of t) = base ∙ ap (progressed s S g) (e (plan_at s) plans_fit) ∙ progressed_step s S g t in
           let k = same.long in
           let enough = w.room in
           let t-is : at (store_of t) (activations_of t) ≡ t = snapshot_is t in

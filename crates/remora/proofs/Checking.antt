@@ -6,7 +6,7 @@ use Rattle.remora.specs.Algebras.{Meaning}
 use Rattle.remora.specs.Formulas.{ArrayType, shaped, no_type, Line, Kind, a_literal, a_parameter, a_frame, an_operator, a_call, a_fold, an_append, a_reverse, no_kind, kind_of, Entry, Function, primitive, formula, fold, append, reversal, scalars, cells, result_cell, TypedLine, literal, parameter, frame, application, type_of}
 use Rattle.remora.specs.Typing.{InSet, Alike, no_operand, operand, Operands, no_operands, and_operand, Names, names_operator, names_formula, names_fold, names_append, names_reverse, Types, t_array, t_var, t_frame, t_app, TypesAll, no_lines, and_line}
 use Rattle.remora.specs.Questions.{Question, AllYes, or_else, first_no, type_at, earlier, bases_fit, cells_fit, frames, in_set, same_base, same_shape, foldable, first_axis, has_axis, first_base, second_cell, function_of, principal_frame, applied, typed_as, typed, questions_of, questions, Verdict, all_typed, refused_at, before, unless, judge, typed_lines}
-use Rattle.remora.proofs.Prefixes.{same_equal, same_self, principal_join, join_principal, ends-split, frame_is, cell_is, ends-append}
+use Rattle.remora.proofs.Prefixes.{same_equal, same_self, principal_join, join_principal, ends_split, frame_is, cell_is, ends_append}
 
 -- ---- questions and their first no
 
@@ -33,18 +33,18 @@ set_in holds b [] h = refl
 set_in holds b (c ∷ cs) h = and_from _ _ h.0 (set_in holds b cs h.1)
 
 module _ (types : List ArrayType) where
-  operands-from : (ws : List ArrayType) (os : List ℕ) → length os ≡ length ws → earlier types os ≡ true → bases_fit types ws os ≡ true → cells_fit types ws os ≡ true
+  operands_from : (ws : List ArrayType) (os : List ℕ) → length os ≡ length ws → earlier types os ≡ true → bases_fit types ws os ≡ true → cells_fit types ws os ≡ true
       → Operands types ws os (frames types ws os)
-  operands-from [] [] l h b e = no_operands
-  operands-from [] (o ∷ os) l h b e = absurd (omega arith)
-  operands-from (w ∷ ws) [] l h b e = absurd (omega arith)
-  operands-from (w ∷ ws) (o ∷ os) l h b e =
+  operands_from [] [] l h b e = no_operands
+  operands_from [] (o ∷ os) l h b e = absurd (omega arith)
+  operands_from (w ∷ ws) [] l h b e = absurd (omega arith)
+  operands_from (w ∷ ws) (o ∷ os) l h b e =
       let h' = and_parts (ltb o (length types)) (earlier types os) h in
       let b' = and_parts (eqb (type_at types o).base w.base) (bases_fit types ws os) b in
       let e' = and_parts (ends w.shape (type_at types o).shape) (cells_fit types ws os) e in
       and_operand (frame_of w.shape (type_at types o).shape) (ltb-true o (length types) h'.0)
-      (ap (λ (z : ℕ). shaped z (type_at types o).shape) (eqb-true _ _ b'.0) ∙ ap (λ (z : Shape). shaped w.base z) (ends-split w.shape (type_at types o).shape e'.0))
-      (operands-from ws os (omega arith) h'.1 b'.1 e'.1)
+      (ap (λ (z : ℕ). shaped z (type_at types o).shape) (eqb-true _ _ b'.0) ∙ ap (λ (z : Shape). shaped w.base z) (ends_split w.shape (type_at types o).shape e'.0))
+      (operands_from ws os (omega arith) h'.1 b'.1 e'.1)
 
   -- what the questions find of operands that are typed
   record Fitting (ws : List ArrayType) (os : List ℕ) (fs : List Shape) : Type 0 where
@@ -63,7 +63,7 @@ module _ (types : List ArrayType) where
         count = omega arith;
         before_here = and_from _ _ (lt-ltb o (length types) i) ih.before_here;
         bases = and_from _ _ (eq-eqb _ _ (ap (λ (z : ArrayType). z.base) e)) ih.bases;
-        ending = and_from _ _ (ap (λ (z : ArrayType). ends w.shape z.shape) e ∙ ends-append f w.shape) ih.ending;
+        ending = and_from _ _ (ap (λ (z : ArrayType). ends w.shape z.shape) e ∙ ends_append f w.shape) ih.ending;
         framed = ap (λ (z : Shape). z ∷ fs') (sym (ap (λ (z : ArrayType). frame_of w.shape z.shape) e ∙ frame_is f w.shape))
             ∙ ap (λ (z : List Shape). frame_of w.shape (type_at types o).shape ∷ z) ih.framed;
       }
@@ -87,9 +87,9 @@ module _ (types : List ArrayType) where
         and_from _ _ (ap (λ (z : ArrayType). same z.shape s) e ∙ same_self s) ih.2,
       )
 
-length-scalars : (bs : List ℕ) → length (scalars bs) ≡ length bs
-length-scalars [] = refl
-length-scalars (b ∷ bs) = ap suc (length-scalars bs)
+length_scalars : (bs : List ℕ) → length (scalars bs) ≡ length bs
+length_scalars [] = refl
+length_scalars (b ∷ bs) = ap suc (length_scalars bs)
 
 foldable_is : (bs : List ℕ) (r : ℕ) → foldable bs r ≡ true → bs ≡ r ∷ r ∷ []
 foldable_is [] r h = absurd (both_ways false refl h)
@@ -107,7 +107,7 @@ module _ (m : Meaning) (n : ℕ) (E : ℕ → Entry) (usable : ℕ → Bool) (ps
   app_from : (l : Line) (f : Function) → Names m n usable l f → length l.operands ≡ length (cells m E f) → earlier types l.operands ≡ true
       → bases_fit types (cells m E f) l.operands ≡ true → cells_fit types (cells m E f) l.operands ≡ true → agree (frames types (cells m E f) l.operands) ≡ true
       → allowed (type_of (applied m E ps types f l.operands)).shape ≡ true → Types m n E usable ps types l (applied m E ps types f l.operands)
-  app_from l f names c h b e a s = t_app (frames types (cells m E f) l.operands) names refl (operands-from types (cells m E f) l.operands c h b e) (principal_join _ a) refl s
+  app_from l f names c h b e a s = t_app (frames types (cells m E f) l.operands) names refl (operands_from types (cells m E f) l.operands c h b e) (principal_join _ a) refl s
 
   yes_types : (l : Line) (k : Kind) → kind_of l.kind ≡ k → AllYes (questions_of m n E usable ps types k l) → Types m n E usable ps types l (typed_as m E ps types k l)
   yes_types l a_literal k q = let u = and_parts _ _ q.0 in t_array k refl refl (eqb-true _ _ u.0) (in_set_lem m.holds l.base l.codes u.1) q.1.0
@@ -119,7 +119,7 @@ module _ (m : Meaning) (n : ℕ) (E : ℕ → Entry) (usable : ℕ → Bool) (ps
   yes_types l an_operator k q =
       let u = and_parts _ _ q.0 in
       let v = and_parts _ _ u.1 in
-      app_from l (primitive l.function) (names_operator k (ltb-true _ _ v.0)) (eqb-true _ _ v.1 ∙ sym (length-scalars (m.operator l.function).operands)) u.0 q.1.0 q.1.1.0 q.1.1.1.0 q.1.1.1.1.0
+      app_from l (primitive l.function) (names_operator k (ltb-true _ _ v.0)) (eqb-true _ _ v.1 ∙ sym (length_scalars (m.operator l.function).operands)) u.0 q.1.0 q.1.1.0 q.1.1.1.0 q.1.1.1.1.0
   yes_types l a_call k q =
       let u = and_parts _ _ q.0 in
       let v = and_parts _ _ u.1 in
@@ -145,8 +145,8 @@ module _ (m : Meaning) (n : ℕ) (E : ℕ → Entry) (usable : ℕ → Bool) (ps
       app_from l (function_of m E ps types a_reverse l) (names_reverse _ _ (drop 1 l.shape) k (axis_is l.shape q.1.0)) (eqb-true _ _ u.1) u.0 q.1.1.0 q.1.1.1.0 q.1.1.1.1.0 q.1.1.1.1.1.0
   yes_types l no_kind k q = absurd (both_ways false refl q.0)
 
-  pub questions-type : (l : Line) → AllYes (questions m n E usable ps types l) → Types m n E usable ps types l (typed m E ps types l)
-  questions-type l q = yes_types l (kind_of l.kind) refl q
+  pub questions_type : (l : Line) → AllYes (questions m n E usable ps types l) → Types m n E usable ps types l (typed m E ps types l)
+  questions_type l q = yes_types l (kind_of l.kind) refl q
 
   -- ---- a type gives yes to all questions
 
@@ -183,20 +183,20 @@ module _ (m : Meaning) (n : ℕ) (E : ℕ → Entry) (usable : ℕ → Bool) (ps
   app_as : (f g : Function) (os : List ℕ) (p : Shape) (t : ArrayType) → f ≡ g → Applies f os p t → Applies g os p t × (application f os p t ≡ applied m E ps types g os)
   app_as f g os p t e a = let b : Applies g os p t = subst (λ (h : Function). Applies h os p t) e a in (b, ap (λ (h : Function). application h os p t) e ∙ b.same_line)
 
-  foldable-from : (bs : List ℕ) (b r : ℕ) → bs ≡ b ∷ b ∷ [] → r ≡ b → foldable bs r ≡ true
-  foldable-from bs b r e u = rw (e, u) (and_from _ _ (eq-eqb b b refl) (eq-eqb b b refl))
+  foldable_from : (bs : List ℕ) (b r : ℕ) → bs ≡ b ∷ b ∷ [] → r ≡ b → foldable bs r ≡ true
+  foldable_from bs b r e u = rw (e, u) (and_from _ _ (eq-eqb b b refl) (eq-eqb b b refl))
 
-  unit-from : (k : ℕ) (u : Bool) → (k ≡ 0 → u ≡ true) → (not (eqb k 0) || u) ≡ true
-  unit-from k u h = go (cases_eq k 0)
+  unit_from : (k : ℕ) (u : Bool) → (k ≡ 0 → u ≡ true) → (not (eqb k 0) || u) ≡ true
+  unit_from k u h = go (cases_eq k 0)
     where
       go : (k ≡ 0) ⊎ (k ≡ 0 → ⊥) → (not (eqb k 0) || u) ≡ true
       go (inl e) = rw (eq-eqb k 0 e) (h e)
       go (inr e) = rw (ne_eqb k 0 e)
 
   -- the base type and the second cell of a typed append, as the questions find them
-  append-parts : (l : Line) (b j k : ℕ) (d : Shape) (os : List ℕ) (fs : List Shape) → os ≡ l.operands → l.shape ≡ j ∷ d → Operands types (shaped b (j ∷ d) ∷ shaped b (k ∷ d) ∷ []) os fs
+  append_parts : (l : Line) (b j k : ℕ) (d : Shape) (os : List ℕ) (fs : List Shape) → os ≡ l.operands → l.shape ≡ j ∷ d → Operands types (shaped b (j ∷ d) ∷ shaped b (k ∷ d) ∷ []) os fs
       → append b j k d ≡ function_of m E ps types an_append l
-  append-parts l b j k d os fs e s (and_operand {o = o₁} f₁ i₁ e₁ (and_operand {o = o₂} f₂ i₂ e₂ no_operands)) =
+  append_parts l b j k d os fs e s (and_operand {o = o₁} f₁ i₁ e₁ (and_operand {o = o₂} f₂ i₂ e₂ no_operands)) =
       let first : first_base m E ps types l ≡ b = ap (λ (q : List ℕ). (type_at types (get_or q 0 0)).base) (sym e) ∙ ap (λ (q : ArrayType). q.base) e₁ in
       let second : (type_at types (get_or l.operands 1 0)).shape ≡ f₂ ++ k ∷ d = ap (λ (q : List ℕ). (type_at types (get_or q 1 0)).shape) (sym e) ∙ ap (λ (q : ArrayType). q.shape) e₂ in
       let same_length : length l.shape ≡ length (k ∷ d) = ap length s in
@@ -204,9 +204,9 @@ module _ (m : Meaning) (n : ℕ) (E : ℕ → Entry) (usable : ℕ → Bool) (ps
       ap (λ (q : Shape). drop (length q - length l.shape) q) second ∙ ap (λ (i : ℕ). drop (length (f₂ ++ k ∷ d) - i) (f₂ ++ k ∷ d)) same_length ∙ cell_is f₂ (k ∷ d) in
       sym (rw (first, cell, s))
 
-  reverse-parts : (l : Line) (b k : ℕ) (d : Shape) (os : List ℕ) (fs : List Shape) → os ≡ l.operands → l.shape ≡ k ∷ d → Operands types (shaped b (k ∷ d) ∷ []) os fs
+  reverse_parts : (l : Line) (b k : ℕ) (d : Shape) (os : List ℕ) (fs : List Shape) → os ≡ l.operands → l.shape ≡ k ∷ d → Operands types (shaped b (k ∷ d) ∷ []) os fs
       → reversal b k d ≡ function_of m E ps types a_reverse l
-  reverse-parts l b k d os fs e s (and_operand {o = o₁} f₁ i₁ e₁ no_operands) =
+  reverse_parts l b k d os fs e s (and_operand {o = o₁} f₁ i₁ e₁ no_operands) =
       let first : first_base m E ps types l ≡ b = ap (λ (q : List ℕ). (type_at types (get_or q 0 0)).base) (sym e) ∙ ap (λ (q : ArrayType). q.base) e₁ in
       sym (rw (first, s))
 
@@ -215,7 +215,7 @@ module _ (m : Meaning) (n : ℕ) (E : ℕ → Entry) (usable : ℕ → Bool) (ps
   app_answers l f os p t fs (names_operator k i) e ok a =
       let a' : Applies f l.operands p t = subst (λ (q : List ℕ). Applies f q p t) e a in
       subst (λ (z : Kind). Answers z l (application f os p t)) (sym k) (
-        (and_from _ _ a'.before_here (and_from _ _ (lt-ltb _ _ i) (eq-eqb _ _ (a'.count ∙ length-scalars (m.operator l.function).operands))), (a'.bases, (a'.ending, (a'.agreeing, (a'.shape_allowed, tt))))),
+        (and_from _ _ a'.before_here (and_from _ _ (lt-ltb _ _ i) (eq-eqb _ _ (a'.count ∙ length_scalars (m.operator l.function).operands))), (a'.bases, (a'.ending, (a'.agreeing, (a'.shape_allowed, tt))))),
         ap (λ (q : List ℕ). application f q p t) e ∙ a'.same_line,
       )
   app_answers l f os p t fs (names_formula k i v) e ok a =
@@ -232,15 +232,15 @@ module _ (m : Meaning) (n : ℕ) (E : ℕ → Entry) (usable : ℕ → Bool) (ps
       let axis : first_axis l.shape ≡ j = ap first_axis s in
       subst (λ (z : Kind). Answers z l (application f os p t)) (sym k) (
         (
-          and_from _ _ a'.before_here (and_from _ _ (and_from _ _ (lt-ltb _ _ i) (foldable-from _ b _ w r)) (eq-eqb _ _ a'.count)),
-          (ap has_axis s, (c.0.bases, (c.0.ending, (c.0.agreeing, (unit-from (first_axis l.shape) (is_some (m.operator l.function).unit) (λ z. u (sym axis ∙ z)), (c.0.shape_allowed, tt)))))),
+          and_from _ _ a'.before_here (and_from _ _ (and_from _ _ (lt-ltb _ _ i) (foldable_from _ b _ w r)) (eq-eqb _ _ a'.count)),
+          (ap has_axis s, (c.0.bases, (c.0.ending, (c.0.agreeing, (unit_from (first_axis l.shape) (is_some (m.operator l.function).unit) (λ z. u (sym axis ∙ z)), (c.0.shape_allowed, tt)))))),
         ),
         ap (λ (q : List ℕ). application f q p t) e ∙ c.1,
       )
   app_answers l f os p t fs (names_append b j k' d k s) e ok a =
       let g : Function = function_of m E ps types an_append l in
       let a' : Applies f l.operands p t = subst (λ (q : List ℕ). Applies f q p t) e a in
-      let c = app_as f g l.operands p t (append-parts l b j k' d os fs e s ok) a' in
+      let c = app_as f g l.operands p t (append_parts l b j k' d os fs e s ok) a' in
       subst (λ (z : Kind). Answers z l (application f os p t)) (sym k) (
         (and_from _ _ a'.before_here (eq-eqb _ _ a'.count), (ap has_axis s, (c.0.bases, (c.0.ending, (c.0.agreeing, (c.0.shape_allowed, tt)))))),
         ap (λ (q : List ℕ). application f q p t) e ∙ c.1,
@@ -248,14 +248,14 @@ module _ (m : Meaning) (n : ℕ) (E : ℕ → Entry) (usable : ℕ → Bool) (ps
   app_answers l f os p t fs (names_reverse b k' d k s) e ok a =
       let g : Function = function_of m E ps types a_reverse l in
       let a' : Applies f l.operands p t = subst (λ (q : List ℕ). Applies f q p t) e a in
-      let c = app_as f g l.operands p t (reverse-parts l b k' d os fs e s ok) a' in
+      let c = app_as f g l.operands p t (reverse_parts l b k' d os fs e s ok) a' in
       subst (λ (z : Kind). Answers z l (application f os p t)) (sym k) (
         (and_from _ _ a'.before_here (eq-eqb _ _ a'.count), (ap has_axis s, (c.0.bases, (c.0.ending, (c.0.agreeing, (c.0.shape_allowed, tt)))))),
         ap (λ (q : List ℕ). application f q p t) e ∙ c.1,
       )
 
-  pub type-questions : (l : Line) (r : TypedLine) → Types m n E usable ps types l r → AllYes (questions m n E usable ps types l) × (r ≡ typed m E ps types l)
-  type-questions l (literal t cs) (t_array k e u c i s) =
+  pub type_questions : (l : Line) (r : TypedLine) → Types m n E usable ps types l r → AllYes (questions m n E usable ps types l) × (r ≡ typed m E ps types l)
+  type_questions l (literal t cs) (t_array k e u c i s) =
       subst (λ (z : Kind). Answers z l (literal t cs)) (sym k) (
         (
           and_from _ _ (eq-eqb _ _ (ap length (sym u) ∙ c ∙ ap (λ (q : ArrayType). size q.shape) e))
@@ -264,13 +264,13 @@ module _ (m : Meaning) (n : ℕ) (E : ℕ → Entry) (usable : ℕ → Bool) (ps
         ),
         ap (λ (q : ArrayType). literal q cs) e ∙ ap (literal (shaped l.base l.shape)) u,
       )
-  type-questions l (parameter j t) (t_var k e i u s) =
+  type_questions l (parameter j t) (t_var k e i u s) =
       let v : get_or ps l.function no_type ≡ t = ap (λ (q : ℕ). get_or ps q no_type) (sym e) ∙ u in
       subst (λ (z : Kind). Answers z l (parameter j t)) (sym k) (
         (lt-ltb _ _ (let e' = e in omega arith), (ap (λ (q : ArrayType). allowed q.shape) v ∙ s, tt)),
         ap (λ (q : ℕ). parameter q t) e ∙ ap (parameter l.function) (sym v),
       )
-  type-questions l (frame os p t) (t_frame cell k e u w c i a s) =
+  type_questions l (frame os p t) (t_frame cell k e u w c i a s) =
       let shape_is : l.shape ≡ p ++ cell = ap (λ (q : ArrayType). q.shape) (sym u) ∙ w in
       let front : take l.function l.shape ≡ p = ap (λ (q : Shape). take l.function q) shape_is ∙ take_at p cell l.function c in
       let back : drop l.function l.shape ≡ cell = ap (λ (q : Shape). drop l.function q) shape_is ∙ drop_at p cell l.function c in
@@ -281,7 +281,7 @@ module _ (m : Meaning) (n : ℕ) (E : ℕ → Entry) (usable : ℕ → Bool) (ps
         (v.0, (and_from _ _ (le-leb _ _ (omega arith)) (eq-eqb _ _ (ap length (sym e) ∙ i ∙ ap size (sym front))), (v.1, (ap (λ (q : Shape). same_shape types q l.operands) back ∙ v.2, (ap (λ (q : ArrayType). allowed q.shape) (sym u) ∙ s, tt))))),
         ap (λ (q : List ℕ). frame q p t) e ∙ ap (λ (q : Shape). frame l.operands q t) (sym front) ∙ ap (frame l.operands (take l.function l.shape)) u,
       )
-  type-questions l (application f os p t) (t_app fs names e ok j u s) = app_answers l f os p t fs names e ok (app_to f os p t fs ok j u s)
+  type_questions l (application f os p t) (t_app fs names e ok j u s) = app_answers l f os p t fs names e ok (app_to f os p t fs ok j u s)
 
 -- ---- all lines of a draft
 
@@ -299,7 +299,7 @@ module _ (m : Meaning) (n : ℕ) (E : ℕ → Entry) (usable : ℕ → Bool) (ps
 
       tail : (v : Verdict) → J ≡ v → before r v ≡ all_typed rs → first_no (questions m n E usable ps types l) ≡ None
           → ((rs' : List TypedLine) → J ≡ all_typed rs' → TypesAll m n E usable ps (types ++ type_of r ∷ []) ls rs') → TypesAll m n E usable ps types (l ∷ ls) rs
-      tail (all_typed rs') j e q ih = let z : r ∷ rs' ≡ rs = cc in subst (TypesAll m n E usable ps types (l ∷ ls)) z (and_line (questions-type m n E usable ps types l (first_no_none _ q)) (ih rs' j))
+      tail (all_typed rs') j e q ih = let z : r ∷ rs' ≡ rs = cc in subst (TypesAll m n E usable ps types (l ∷ ls)) z (and_line (questions_type m n E usable ps types l (first_no_none _ q)) (ih rs' j))
       tail (refused_at a b) j e q ih = let z : ◌≡◌ {A = ℕ} 0 1 = cc in absurd (omega arith)
 
       go : (o : Option ℕ) → first_no (questions m n E usable ps types l) ≡ o → unless o (length types) r J ≡ all_typed rs
@@ -311,7 +311,7 @@ module _ (m : Meaning) (n : ℕ) (E : ℕ → Entry) (usable : ℕ → Bool) (ps
   pub types_judge : (types : List ArrayType) (ls : List Line) (rs : List TypedLine) → TypesAll m n E usable ps types ls rs → (judge m n E usable ps types ls ≡ all_typed rs) × (rs ≡ typed_lines m E ps types ls)
   types_judge types ls rs no_lines = (refl, refl)
   types_judge types ls rs (and_line {l = l} {ls = ls'} {r = r} {rs = rs'} t ts) =
-      let u = type-questions m n E usable ps types l r t in
+      let u = type_questions m n E usable ps types l r t in
       let ih = types_judge (types ++ type_of r ∷ []) ls' rs' ts in
       let e : typed m E ps types l ≡ r = sym u.1 in (
         ap (λ (o : Option ℕ). unless o (length types) (typed m E ps types l) (judge m n E usable ps (types ++ type_of (typed m E ps types l) ∷ []) ls')) (none_first_no _ u.0)

@@ -12,7 +12,7 @@ use Rattle.remora.specs.Calls.{State, Call, serve}
 use Rattle.remora.specs.Histories.{Event, event, Leads}
 use Rattle.remora.specs.Theorems.{PrincipalFrameIsJoin, QuestionsDecideTyping, Says, VerdictDecidesTyping, OfType, TypedFormulasAreSound, HistoriesGoOn}
 use Rattle.remora.proofs.Prefixes.{principal_join, join_principal}
-use Rattle.remora.proofs.Checking.{first_no_none, questions-type, type-questions, types_judge}
+use Rattle.remora.proofs.Checking.{first_no_none, questions_type, type_questions, types_judge}
 use Rattle.remora.proofs.Sizes.{Fit, LengthO, typed_sounds, keeps_all}
 use Rattle.remora.proofs.Simulation.{SimO, map_arrays, own_caused, sims_all}
 use Rattle.remora.proofs.Following.{fit_args, right_args}
@@ -21,13 +21,13 @@ pub principal_frame_is_join : PrincipalFrameIsJoin
 principal_frame_is_join fs = (principal_join fs, join_principal fs)
 
 pub questions_decide_typing : QuestionsDecideTyping
-questions_decide_typing m n E usable ps types l = (questions-type m n E usable ps types l, type-questions m n E usable ps types l)
+questions_decide_typing m n E usable ps types l = (questions_type m n E usable ps types l, type_questions m n E usable ps types l)
 
 module _ (m : Meaning) (n : ℕ) (E : ℕ → Entry) (usable : ℕ → Bool) (ps : List ArrayType) where
   -- a verdict on the rest of the lines, as one on all of them
   says_more : (types : List ArrayType) (l : Line) (ls : List Line) (v : Verdict) → first_no (questions m n E usable ps types l) ≡ None
       → Says m n E usable ps (types ++ type_of (typed m E ps types l) ∷ []) ls v → Says m n E usable ps types (l ∷ ls) (before (typed m E ps types l) v)
-  says_more types l ls (all_typed rs) q s = and_line (questions-type m n E usable ps types l (first_no_none _ q)) s
+  says_more types l ls (all_typed rs) q s = and_line (questions_type m n E usable ps types l (first_no_none _ q)) s
   says_more types l ls (refused_at i k) q s =
       let r : TypedLine = typed m E ps types l in
       let long : length (types ++ type_of r ∷ []) ≡ suc (length types) = length-append types (type_of r ∷ []) ∙ add-one (length types) in
@@ -38,7 +38,7 @@ module _ (m : Meaning) (n : ℕ) (E : ℕ → Entry) (usable : ℕ → Bool) (ps
         rest = s.rest;
         before = r ∷ s.before;
         apart = ap (λ (xs : List Line). l ∷ xs) s.apart;
-        typed_before = and_line (questions-type m n E usable ps types l (first_no_none _ q)) s.typed_before;
+        typed_before = and_line (questions_type m n E usable ps types l (first_no_none _ q)) s.typed_before;
         number = omega arith;
         the_first_no = ap (λ (ts : List ArrayType). first_no (questions m n E usable ps ts s.line)) (sym (append_assoc types (type_of r ∷ []) (types_of s.before))) ∙ s.the_first_no;
       }

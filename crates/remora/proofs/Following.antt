@@ -14,17 +14,17 @@ use Rattle.remora.specs.Machine.{part, put, Activation, on_samples, Snapshot, at
 use Rattle.remora.specs.Calls.{slip_fits, draft_formula, draft_lines, none, Run, going, finished, broken, State, entry_at, plan_at, with_run, Call, open', line, enter, scrap, withdraw, entry, begin, step', result, close, Answer, refused, goes_on, is_done, fault, wrote, Reply, reply, refusal, open_questions, opens_draft, line_questions, adds_line, scrap_questions, drops_draft, withdraw_questions, marks_formula, entry_questions, tells_entry, parameter_atoms, codes_fit, samples_for, needs, first_activation, no_run, store_fits, writes_result, ends_run, progressed, serve_verdict, serve_step, serve_result, serve}
 use Rattle.remora.specs.Histories.{Event, event, Leads, Reading, read_call, Turn, elsewhere, turn, turns, Goes, Yields, Faulted, Caused}
 use Rattle.remora.proofs.Checking.{in_set_lem}
-use Rattle.remora.proofs.Sizes.{Fit, LengthO, Sounds, typed_sounds, keeps_all, known-later}
+use Rattle.remora.proofs.Sizes.{Fit, LengthO, Sounds, typed_sounds, keeps_all, known_later}
 use Rattle.remora.proofs.Simulation.{Right, map_arrays, on_fault, own_caused, SimO, sims_all}
-use Rattle.remora.proofs.Running.{store_of, activations_of, Plans, Runs, stay, move, Fails, Good, planned, planned_below, goods_all, fault_step, Finishes, Story, run-from}
-use Rattle.remora.proofs.Agreeing.{choose_cases, asked_cases, Later, later_trans, read-later, Agrees, rerun, event_agrees}
+use Rattle.remora.proofs.Running.{store_of, activations_of, Plans, Runs, stay, move, Fails, Good, planned, planned_below, goods_all, fault_step, Finishes, Story, run_from}
+use Rattle.remora.proofs.Agreeing.{choose_cases, asked_cases, Later, later_trans, read_later, Agrees, rerun, event_agrees}
 
 -- ---- the codes given to begin, and their samples
 
-pub length-samples : (ts : List ArrayType) (cs : List ℕ) → length cs ≡ parameter_atoms ts → length (samples_for ts cs) ≡ parameter_atoms ts
-length-samples [] cs e = refl
-length-samples (t ∷ ts) cs e =
-    let i = length-samples ts (drop (size t.shape) cs) (simp length-drop (omega arith)) in
+pub length_samples : (ts : List ArrayType) (cs : List ℕ) → length cs ≡ parameter_atoms ts → length (samples_for ts cs) ≡ parameter_atoms ts
+length_samples [] cs e = refl
+length_samples (t ∷ ts) cs e =
+    let i = length_samples ts (drop (size t.shape) cs) (simp length-drop (omega arith)) in
     let j = length-take-le (size t.shape) cs (omega arith) in
     simp (length-append, length-map, j, i)
 
@@ -48,13 +48,13 @@ right_args holds (t ∷ ts) cs e =
     let u = and_parts (in_set holds t.base (take (size t.shape) cs)) (codes_fit holds ts (drop (size t.shape) cs)) e in
     (refl, in_set_lem holds t.base _ u.0, right_args holds ts (drop (size t.shape) cs) u.1)
 
-pub codes-back : (b : ℕ) (ys : List ℕ) → codes_of (map (sample_of b) ys) ≡ ys
-codes-back b [] = refl
-codes-back b (y ∷ ys) = ap (λ (zs : List ℕ). y ∷ zs) (codes-back b ys)
+pub codes_back : (b : ℕ) (ys : List ℕ) → codes_of (map (sample_of b) ys) ≡ ys
+codes_back b [] = refl
+codes_back b (y ∷ ys) = ap (λ (zs : List ℕ). y ∷ zs) (codes_back b ys)
 
-planned-later : (m : Meaning) (fs newer : List Formula) (g : ℕ) → g < length fs → planned m (newer ++ fs) g ≡ planned m fs g
-planned-later m fs [] g l = refl
-planned-later m fs (f ∷ newer) g l = planned_below m f (newer ++ fs) g (simp length-append (omega arith)) ∙ planned-later m fs newer g l
+planned_later : (m : Meaning) (fs newer : List Formula) (g : ℕ) → g < length fs → planned m (newer ++ fs) g ≡ planned m fs g
+planned_later m fs [] g l = refl
+planned_later m fs (f ∷ newer) g l = planned_below m f (newer ++ fs) g (simp length-append (omega arith)) ∙ planned_later m fs newer g l
 
 -- ---- calls that leave the run and the store alone
 
@@ -132,29 +132,29 @@ module _ (m : Meaning) (formed : Formed m) (fs : List Formula) (g : ℕ) (l : g 
   abbrev pub Ok : Plans → Type 0
   Ok F = (h : ℕ) → h < length fs → F h ≡ planned m fs h
 
-  pub plans-ok : (r : Reading) (s : State) → Agrees m r s → Later fs r.formulas → Ok (plan_at s)
-  plans-ok r s a o h k = a.planning h ∙ ap (λ (gs : List Formula). planned m gs h) o.1 ∙ planned-later m fs o.0 h k
+  pub plans_ok : (r : Reading) (s : State) → Agrees m r s → Later fs r.formulas → Ok (plan_at s)
+  plans_ok r s a o h k = a.planning h ∙ ap (λ (gs : List Formula). planned m gs h) o.1 ∙ planned_later m fs o.0 h k
 
-  pub entry-same : (r : Reading) (s : State) → Agrees m r s → Later fs r.formulas → entry_at s g ≡ known m fs g
-  entry-same r s a o = a.entries g ∙ ap (λ (gs : List Formula). known m gs g) o.1 ∙ known-later m fs o.0 g l
+  pub entry_same : (r : Reading) (s : State) → Agrees m r s → Later fs r.formulas → entry_at s g ≡ known m fs g
+  entry_same r s a o = a.entries g ∙ ap (λ (gs : List Formula). known m gs g) o.1 ∙ known_later m fs o.0 g l
 
   store_fits_lem : (r : Reading) (s : State) (S : List Sample) → Agrees m r s → Later fs r.formulas → needs e ≤ length S → store_fits s S g ≡ true
-  store_fits_lem r s S a o h = ap (λ (x : Entry). leb (needs x) (length S)) (entry-same r s a o) ∙ le-leb (needs e) (length S) h
+  store_fits_lem r s S a o h = ap (λ (x : Entry). leb (needs x) (length S)) (entry_same r s a o) ∙ le-leb (needs e) (length S) h
 
   -- how the run ends, from the outcome on codes; j steps come before a fault
   abbrev pub Ending : ℕ → Snapshot → Outcome ℕ → Type 0
   Ending j s (yields ys) = Finishes m Ok e.depth (needs e) e.steps s (size e.result.shape) (map (sample_of e.result.base) ys) × (length ys ≡ size e.result.shape) × InSet m.holds e.result.base ys
   Ending j s (faults x) = Fails m Ok e.depth 0 (needs e) e.steps j s (on_fault m formed x) × Caused m x
 
-  pub begin-ends : AllTyped m fs → (S : List Sample) (cs : List ℕ) → length cs ≡ parameter_atoms e.parameters → codes_fit m.holds e.parameters cs ≡ true → needs e ≤ length S
+  pub begin_ends : AllTyped m fs → (S : List Sample) (cs : List ℕ) → length cs ≡ parameter_atoms e.parameters → codes_fit m.holds e.parameters cs ≡ true → needs e ≤ length S
       → (1 ≤ e.steps) × Ending (fault_step m fs g (arguments e.parameters (samples_for e.parameters cs))) (at (put S 0 (samples_for e.parameters cs)) (first_activation e g ∷ [])) (outcome m fs g cs)
-  begin-ends typed S cs len right room = (
+  begin_ends typed S cs len right room = (
     let p = good.some_steps in omega arith,
     go (outcome m fs g cs) (eval m (on_samples m) fs g (arguments e.parameters xs))
         (subst (λ (ts : List (Array Sample)). SimO m formed e.result.base (outcome m fs g cs) (eval m (on_samples m) fs g ts)) (sym (args_samples e.parameters cs len))
         (sims_all m formed fs sounds g l (arguments e.parameters cs) (right_args m.holds e.parameters cs right) fits))
         (keeps_all m (on_codes m) fs sounds g l (arguments e.parameters cs) fits)
-        (run-from m Ok g e (eval m (on_samples m) fs g) (fault_step m fs g) (planned m fs g) (λ F o. o g l) good S xs (length-samples e.parameters cs len) room),
+        (run_from m Ok g e (eval m (on_samples m) fs g) (fault_step m fs g) (planned m fs g) (λ F o. o g l) good S xs (length_samples e.parameters cs len) room),
   )
     where
       sounds : Sounds m fs
@@ -178,11 +178,11 @@ module _ (m : Meaning) (formed : Formed m) (fs : List Formula) (g : ℕ) (l : g 
   -- ---- once it is done
 
   module _ (q : ℕ) (S₀ : List Sample) (ys : List ℕ) (room : needs e ≤ length S₀) (codes-are : codes_of (part S₀ q (size e.result.shape)) ≡ ys) (long : length ys ≡ size e.result.shape) where
-    result-reply : (r : Reading) (s : State) (S : List Sample) (k : ℕ) → Agrees m r s → Later fs r.formulas → s.run ≡ finished g q → S ≡ S₀
+    result_reply : (r : Reading) (s : State) (S : List Sample) (k : ℕ) → Agrees m r s → Later fs r.formulas → s.run ≡ finished g q → S ≡ S₀
         → serve m s S (result k) ≡ pick (leb (length ys) k) (reply (wrote ys) s S) (refusal s S 21)
     unfolding choose
-    result-reply r s S k a o u v =
-        let size_is : size (entry_at s g).result.shape ≡ length ys = ap (λ (x : Entry). size x.result.shape) (entry-same r s a o) ∙ sym long in
+    result_reply r s S k a o u v =
+        let size_is : size (entry_at s g).result.shape ≡ length ys = ap (λ (x : Entry). size x.result.shape) (entry_same r s a o) ∙ sym long in
         let codes : codes_of (part S q (size (entry_at s g).result.shape)) ≡ ys =
         ap (λ (n : ℕ). codes_of (part S q n)) (size_is ∙ long) ∙ ap (λ (T : List Sample). codes_of (part T q (size e.result.shape))) v ∙ codes-are in
         ap (serve_result s S k) u
@@ -212,13 +212,13 @@ module _ (m : Meaning) (formed : Formed m) (fs : List Formula) (g : ℕ) (l : g 
         let z : serve m s S (begin n cs) ≡ refusal s S 16 = begin_open m s S n cs (ap no_run u) in
         (w.0 ∙ ap (λ (x : Reply). x.answer) z, ih r s t S T (subst (λ (x : Reply). Leads m x.state x.store h t T) z w.1) a o u v)
     done_once c b h (results k) ih r s t S T w a o u v =
-        let z = result-reply r s S k a o u v in
+        let z = result_reply r s S k a o u v in
         picked h r s t S T k b (leb (length ys) k) (w.0 ∙ ap (λ (x : Reply). x.answer) z) (subst (λ (x : Reply). Leads m x.state x.store h t T) z w.1) (λ w'. ih r s t S T w' a o u v)
     done_once c b h closes ih r s t S T w a o u v = w.0 ∙ ap (λ (x : Reply). x.answer) (close_open m s S (ap no_run u))
     done_once c b h (others still away) ih r s t S T w a o u v =
         let k = still m s S in
         subst (λ (x : Turn). Yields ys (x ∷ turns h)) (sym (away b))
-        (ih (read_call r c b) (serve m s S c).state t (serve m s S c).store T w.1 (event_agrees m r s S c b w.0 a) (later_trans _ _ _ o (read-later r c b)) (k.0 ∙ u) (k.1 ∙ v))
+        (ih (read_call r c b) (serve m s S c).state t (serve m s S c).store T w.1 (event_agrees m r s S c b w.0 a) (later_trans _ _ _ o (read_later r c b)) (k.0 ∙ u) (k.1 ∙ v))
 
     pub yields_phase : (h : List Event) → Done h
     yields_phase [] r s t S T w a o u v = tt
@@ -242,7 +242,7 @@ module _ (m : Meaning) (formed : Formed m) (fs : List Formula) (g : ℕ) (l : g 
   broken_once c b h closes ih r s t S T w a o u = w.0 ∙ ap (λ (x : Reply). x.answer) (close_open m s S (ap no_run u))
   broken_once c b h (others still away) ih r s t S T w a o u =
       subst (λ (x : Turn). Faulted (x ∷ turns h)) (sym (away b))
-      (ih (read_call r c b) (serve m s S c).state t (serve m s S c).store T w.1 (event_agrees m r s S c b w.0 a) (later_trans _ _ _ o (read-later r c b)) ((still m s S).0 ∙ u))
+      (ih (read_call r c b) (serve m s S c).state t (serve m s S c).store T w.1 (event_agrees m r s S c b w.0 a) (later_trans _ _ _ o (read_later r c b)) ((still m s S).0 ∙ u))
 
   pub faulted_phase : (h : List Event) → Broken h
   faulted_phase [] r s t S T w a o u = tt
@@ -251,16 +251,16 @@ module _ (m : Meaning) (formed : Formed m) (fs : List Formula) (g : ℕ) (l : g 
   -- ---- while it is at work
 
   -- a step of the run, from the snapshot that state and store have
-  pub step-reply : (r : Reading) (s : State) (S : List Sample) (cur : Snapshot) → Agrees m r s → Later fs r.formulas → s.run ≡ going g (activations_of cur) → S ≡ store_of cur → needs e ≤ length (store_of cur)
+  pub step_reply : (r : Reading) (s : State) (S : List Sample) (cur : Snapshot) → Agrees m r s → Later fs r.formulas → s.run ≡ going g (activations_of cur) → S ≡ store_of cur → needs e ≤ length (store_of cur)
       → serve m s S step' ≡ progressed s S g (step m (plan_at s) cur)
   unfolding choose
-  step-reply r s S cur a o u v room =
+  step_reply r s S cur a o u v room =
       ap (serve_step m s S) u
       ∙ ap (λ (b : Bool). choose b (progressed s S g (step m (plan_at s) (at S (activations_of cur)))) (refusal s S 18)) (store_fits_lem r s S a o (rw v room))
       ∙ ap (λ (x : Snapshot). progressed s S g (step m (plan_at s) x)) (ap (λ (T : List Sample). at T (activations_of cur)) v ∙ snapshot_is cur)
 
-  progressed-more : (s : State) (S : List Sample) (x : Snapshot) → progressed s S g (more x) ≡ reply goes_on (with_run s (going g (activations_of x))) (store_of x)
-  progressed-more s S (at T ts) = refl
+  progressed_more : (s : State) (S : List Sample) (x : Snapshot) → progressed s S g (more x) ≡ reply goes_on (with_run s (going g (activations_of x))) (store_of x)
+  progressed_more s S (at T ts) = refl
 
   module _ (last : Snapshot) (b : Answer) (end : Run) (U : List Sample) (after : List Turn → Type 0)
       (ends : (r : Reading) (s : State) (S : List Sample) → Agrees m r s → Later fs r.formulas → progressed s S g (step m (plan_at s) last) ≡ reply b (with_run s end) U)
@@ -272,11 +272,11 @@ module _ (m : Meaning) (formed : Formed m) (fs : List Formula) (g : ℕ) (l : g 
 
     step_once : (c : Answer) (h : List Event) → AtWork h → AtWork (event step' c ∷ h)
     step_once c h ih r s t S T cur j w a o u v room stay =
-        let z : serve m s S step' ≡ reply b (with_run s end) U = step-reply r s S cur a o u v room ∙ ends r s S a o in
+        let z : serve m s S step' ≡ reply b (with_run s end) U = step_reply r s S cur a o u v room ∙ ends r s S a o in
         (w.0 ∙ ap (λ (x : Reply). x.answer) z, rest h r (with_run s end) t T (subst (λ (x : Reply). Leads m x.state x.store h t T) z w.1) (rerun m r s end a) o refl)
     step_once c h ih r s t S T cur j w a o u v room (move {n = n} {t = x} f same few runs) =
         let z : serve m s S step' ≡ reply goes_on (with_run s (going g (activations_of x))) (store_of x) =
-        step-reply r s S cur a o u v room ∙ ap (progressed s S g) (f (plan_at s) (plans-ok r s a o)) ∙ progressed-more s S x in
+        step_reply r s S cur a o u v room ∙ ap (progressed s S g) (f (plan_at s) (plans_ok r s a o)) ∙ progressed_more s S x in
         let long = same.long in (
           w.0 ∙ ap (λ (y : Reply). y.answer) z,
           ih r (with_run s (going g (activations_of x))) t (store_of x) T x n (subst (λ (y : Reply). Leads m y.state y.store h t T) z w.1) (rerun m r s _ a) o refl refl (omega arith) runs,
@@ -294,32 +294,32 @@ module _ (m : Meaning) (formed : Formed m) (fs : List Formula) (g : ℕ) (l : g 
     work_once c d h (others still away) ih r s t S T cur j w a o u v room runs =
         let k = still m s S in
         subst (λ (x : Turn). Goes j b after (x ∷ turns h)) (sym (away d))
-        (ih (read_call r c d) (serve m s S c).state t (serve m s S c).store T cur j w.1 (event_agrees m r s S c d w.0 a) (later_trans _ _ _ o (read-later r c d)) (k.0 ∙ u) (k.1 ∙ v) room runs)
+        (ih (read_call r c d) (serve m s S c).state t (serve m s S c).store T cur j w.1 (event_agrees m r s S c d w.0 a) (later_trans _ _ _ o (read_later r c d)) (k.0 ∙ u) (k.1 ∙ v) room runs)
 
     follow : (h : List Event) → AtWork h
     follow [] r s t S T cur j w a o u v room runs = tt
     follow (event c d ∷ h) r s t S T cur j w a o u v room runs = work_once c d h (about c) (follow h) r s t S T cur j w a o u v room runs
 
-  progressed-fault : (s : State) (S : List Sample) (x : Snapshot) (y : Fault Sample) → progressed s S g (faulted x y) ≡ reply (fault y.cause y.formula y.line y.cell) (with_run s (broken g)) (store_of x)
-  progressed-fault s S (at T ts) y = refl
+  progressed_fault : (s : State) (S : List Sample) (x : Snapshot) (y : Fault Sample) → progressed s S g (faulted x y) ≡ reply (fault y.cause y.formula y.line y.cell) (with_run s (broken g)) (store_of x)
+  progressed_fault s S (at T ts) y = refl
 
   -- what follows a begin, from the way the run ends; with the steps before a fault
   abbrev pub Follows : ℕ → Outcome ℕ → List Turn → Type 0
   Follows j (yields ys) h = Goes (e.steps - 1) is_done (Yields ys) h
   Follows j (faults x) h = Goes j (fault x.cause x.formula x.line x.cell) Faulted h
 
-  pub begun-follows : (j : ℕ) (x : Outcome ℕ) (h : List Event) (r : Reading) (s t : State) (S T : List Sample) (ts : List Activation) → Leads m s S h t T → Agrees m r s → Later fs r.formulas
+  pub begun_follows : (j : ℕ) (x : Outcome ℕ) (h : List Event) (r : Reading) (s t : State) (S T : List Sample) (ts : List Activation) → Leads m s S h t T → Agrees m r s → Later fs r.formulas
       → s.run ≡ going g ts → needs e ≤ length S → Ending j (at S ts) x → Follows j x (turns h)
-  begun-follows j (yields ys) h r s t S T ts w a o u room (f, long, inb) =
+  begun_follows j (yields ys) h r s t S T ts w a o u room (f, long, inb) =
       follow f.last is_done (finished g f.place) (store_of f.last) (Yields ys)
-      (λ r' s' S' a' o'. ap (progressed s' S' g) (f.ends (plan_at s') (plans-ok r' s' a' o')))
-      (λ h' r' s' t' T' w' a' o' u'. yields_phase f.place (store_of f.last) ys room' (ap codes_of f.items ∙ codes-back e.result.base ys) long h' r' s' t' (store_of f.last) T' w' a' o' u' refl)
+      (λ r' s' S' a' o'. ap (progressed s' S' g) (f.ends (plan_at s') (plans_ok r' s' a' o')))
+      (λ h' r' s' t' T' w' a' o' u'. yields_phase f.place (store_of f.last) ys room' (ap codes_of f.items ∙ codes_back e.result.base ys) long h' r' s' t' (store_of f.last) T' w' a' o' u' refl)
       h r s t S T (at S ts) (e.steps - 1) w a o u refl room f.runs
     where
       room' : needs e ≤ length (store_of f.last)
       room' = let k = (Rattle.remora.proofs.Running.runs_same f.runs).long in omega arith
-  begun-follows j (faults x) h r s t S T ts w a o u room (f, own) =
+  begun_follows j (faults x) h r s t S T ts w a o u room (f, own) =
       follow f.before (fault x.cause x.formula x.line x.cell) (broken g) (store_of f.after) Faulted
-      (λ r' s' S' a' o'. ap (progressed s' S' g) (f.fails (plan_at s') (plans-ok r' s' a' o')) ∙ progressed-fault s' S' f.after (on_fault m formed x))
+      (λ r' s' S' a' o'. ap (progressed s' S' g) (f.fails (plan_at s') (plans_ok r' s' a' o')) ∙ progressed_fault s' S' f.after (on_fault m formed x))
       (λ h' r' s' t' T' w' a' o' u'. faulted_phase h' r' s' t' (store_of f.after) T' w' a' o' u')
       h r s t S T (at S ts) j w a o u refl room f.runs

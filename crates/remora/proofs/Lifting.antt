@@ -7,15 +7,15 @@ use Rattle.std.proofs.lemmas.Bool.{cases_lt}
 use Rattle.remora.specs.Shapes.{Shape, size}
 use Rattle.remora.specs.Formulas.{last_or}
 use Rattle.remora.specs.Evaluation.{split, rep, repeats, lift}
-use Rattle.remora.proofs.Prefixes.{frame-length, frame_is}
+use Rattle.remora.proofs.Prefixes.{frame_length, frame_is}
 
-pub size-append : (a b : Shape) → size (a ++ b) ≡ size a * size b
-size-append [] b = sym (one-mul (size b))
-size-append (x ∷ a) b = rw (size-append a b) (sym (mul_assoc x (size a) (size b)))
+pub size_append : (a b : Shape) → size (a ++ b) ≡ size a * size b
+size_append [] b = sym (one-mul (size b))
+size_append (x ∷ a) b = rw (size_append a b) (sym (mul_assoc x (size a) (size b)))
 
-pub length-split : {X : Type 0} (m k : ℕ) (xs : List X) → length (split m k xs) ≡ m
-length-split zero k xs = refl
-length-split (suc m) k xs = ap suc (length-split m k (drop k xs))
+pub length_split : {X : Type 0} (m k : ℕ) (xs : List X) → length (split m k xs) ≡ m
+length_split zero k xs = refl
+length_split (suc m) k xs = ap suc (length_split m k (drop k xs))
 
 get_or_split : {X : Type 0} (m k i : ℕ) (xs : List X) → i < m → get_or (split m k xs) i [] ≡ take k (drop (i * k) xs)
 get_or_split zero k i xs h = absurd (omega arith)
@@ -41,23 +41,23 @@ get_or_rep {X} r c d (x ∷ L) h = go (cases_lt c r) (get_or_rep r (c - r) d L)
         (get_or-append_right (replicate r x) (rep r L) r c d (length-replicate r x) l ∙ ih (let e = suc-mul (length L) r in omega arith))
 
 pub repeats_is : (f r w : Shape) → repeats (f ++ r) w (f ++ w) ≡ size r
-repeats_is f r w = rw (frame-length f w) (ap size (drop_at f r (length f) refl))
+repeats_is f r w = rw (frame_length f w) (ap size (drop_at f r (length f) refl))
 
 -- cell c of a lifted operand is a piece of its items
-pub lift-at : {X : Type 0} (f r w : Shape) (xs : List X) (c : ℕ) → c < size (f ++ r)
+pub lift_at : {X : Type 0} (f r w : Shape) (xs : List X) (c : ℕ) → c < size (f ++ r)
     → get_or (lift (f ++ r) w (f ++ w) xs) c [] ≡ take (size w) (drop ((c / size r) * size w) xs)
-lift-at f r w xs c h =
-    let k : c < size f * size r = rw size-append at h in
+lift_at f r w xs c h =
+    let k : c < size f * size r = rw size_append at h in
     let q : c / size r < size f = (div-lt_iff_lt-mul (pos_right (size f) (size r) c k)).1 k in
     rw (repeats_is f r w, frame_is f w)
-    (get_or_rep (size r) c [] (split (size f) (size w) xs) (rw length-split k) ∙ get_or_split (size f) (size w) (c / size r) xs q)
+    (get_or_rep (size r) c [] (split (size f) (size w) xs) (rw length_split k) ∙ get_or_split (size f) (size w) (c / size r) xs q)
 
-pub cell-within : (f r w : Shape) (c : ℕ) → c < size (f ++ r) → (c / size r) * size w + size w ≤ size (f ++ w)
-cell-within f r w c h =
-    let k : c < size f * size r = rw size-append at h in
+pub cell_within : (f r w : Shape) (c : ℕ) → c < size (f ++ r) → (c / size r) * size w + size w ≤ size (f ++ w)
+cell_within f r w c h =
+    let k : c < size f * size r = rw size_append at h in
     let q : c / size r < size f = (div-lt_iff_lt-mul (pos_right (size f) (size r) c k)).1 k in
     let e : suc (c / size r) * size w ≤ size f * size w = mul-le-mul_right (size w) q in
-    let g : suc (c / size r) * size w ≤ size (f ++ w) = rw size-append e in
+    let g : suc (c / size r) * size w ≤ size (f ++ w) = rw size_append e in
     rw suc-mul at g
 
 pub length_part : {X : Type 0} (p n : ℕ) (xs : List X) → p + n ≤ length xs → length (take n (drop p xs)) ≡ n

@@ -21,26 +21,26 @@ begins_prefix (x ∷ f) (y ∷ s) h =
     let v = begins_prefix f s u.1 in
     (v.0, ap (λ (z : ℕ). z ∷ s) (sym (eqb-true x y u.0)) ∙ ap (λ (z : Shape). x ∷ z) v.1)
 
-begins-append : (f r : Shape) → begins f (f ++ r) ≡ true
-begins-append [] r = refl
-begins-append (x ∷ f) r = and_from _ _ (eq-eqb x x refl) (begins-append f r)
+begins_append : (f r : Shape) → begins f (f ++ r) ≡ true
+begins_append [] r = refl
+begins_append (x ∷ f) r = and_from _ _ (eq-eqb x x refl) (begins_append f r)
 
 pub prefix_begins : (f s : Shape) → Prefix f s → begins f s ≡ true
-prefix_begins f s p = rw p.1 (begins-append f p.0)
+prefix_begins f s p = rw p.1 (begins_append f p.0)
 
 pub prefix_self : (f : Shape) → Prefix f f
 prefix_self f = ([], sym (append-nil f))
 
-nil-length : (r : Shape) → length r ≡ 0 → r ≡ []
-nil-length [] h = refl
-nil-length (x ∷ r) h = absurd (omega arith)
+nil_length : (r : Shape) → length r ≡ 0 → r ≡ []
+nil_length [] h = refl
+nil_length (x ∷ r) h = absurd (omega arith)
 
 -- two prefixes of each other are one
 prefix_both : (f g : Shape) → Prefix f g → Prefix g f → f ≡ g
 prefix_both f g p q =
     let a : length g ≡ length f + length p.0 = ap length p.1 ∙ length-append f p.0 in
     let b : length f ≡ length g + length q.0 = ap length q.1 ∙ length-append g q.0 in
-    let z : p.0 ≡ [] = nil-length p.0 (omega arith) in
+    let z : p.0 ≡ [] = nil_length p.0 (omega arith) in
     sym (p.1 ∙ ap (λ (r : Shape). f ++ r) z ∙ append-nil f)
 
 prefix_length : (f g : Shape) → Prefix f g → length f ≤ length g
@@ -65,7 +65,7 @@ shorter_begins f g h l = go (or_cases (begins f g) (begins g f) h)
     back : Prefix g f → Prefix f g
     back p =
         let a : length f ≡ length g + length p.0 = ap length p.1 ∙ length-append g p.0 in
-        let z : p.0 ≡ [] = nil-length p.0 (omega arith) in
+        let z : p.0 ≡ [] = nil_length p.0 (omega arith) in
         let e : f ≡ g = p.1 ∙ ap (λ (r : Shape). g ++ r) z ∙ append-nil g in
         ([], sym e ∙ sym (append-nil f))
 
@@ -73,8 +73,8 @@ shorter_begins f g h l = go (or_cases (begins f g) (begins g f) h)
     go (inl e) = begins_prefix f g e
     go (inr e) = back (begins_prefix g f e)
 
-comparable-swap : (f g : Shape) → comparable f g ≡ true → comparable g f ≡ true
-comparable-swap f g h = go (or_cases (begins f g) (begins g f) h)
+comparable_swap : (f g : Shape) → comparable f g ≡ true → comparable g f ≡ true
+comparable_swap f g h = go (or_cases (begins f g) (begins g f) h)
   where
     left : (b c : Bool) → b ≡ true → (b || c) ≡ true
     left true c e = refl
@@ -108,7 +108,7 @@ bounds_longer f p [] h k l = tt
 bounds_longer f p (g ∷ fs) h k l =
     let u = and_parts (comparable f g) (agree_with f fs) h in
     let v = prefix_length g p k.0 in
-    (shorter_begins g f (comparable-swap f g u.0) (omega arith), bounds_longer f p fs u.1 k.1 l)
+    (shorter_begins g f (comparable_swap f g u.0) (omega arith), bounds_longer f p fs u.1 k.1 l)
 
 -- if of every two frames one is a prefix of the other, each is a prefix of the longest
 pub principal_bounds : (fs : List Shape) → agree fs ≡ true → Bounds (principal fs) fs
@@ -123,16 +123,16 @@ principal_bounds (f ∷ fs) h =
     go false e c a ih = (prefix_self f, bounds_longer f (principal fs) fs a ih (ltb-false (length f) (length (principal fs)) e))
 
 -- the longest is a prefix of whatever bounds them all
-principal-least : (fs : List Shape) (q : Shape) → Bounds q fs → Prefix (principal fs) q
-principal-least [] q h = (q, refl)
-principal-least (f ∷ fs) q h = go (ltb (length f) (length (principal fs))) (principal-least fs q h.1)
+principal_least : (fs : List Shape) (q : Shape) → Bounds q fs → Prefix (principal fs) q
+principal_least [] q h = (q, refl)
+principal_least (f ∷ fs) q h = go (ltb (length f) (length (principal fs))) (principal_least fs q h.1)
   where
     go : (b : Bool) → Prefix (principal fs) q → Prefix (longer b f (principal fs)) q
     go true ih = ih
     go false ih = h.0
 
 pub principal_join : (fs : List Shape) → agree fs ≡ true → Join fs (principal fs)
-principal_join fs h = record { upper = principal_bounds fs h; least = principal-least fs }
+principal_join fs h = record { upper = principal_bounds fs h; least = principal_least fs }
 
 agree_with_bounded : (f p : Shape) (fs : List Shape) → Prefix f p → Bounds p fs → agree_with f fs ≡ true
 agree_with_bounded f p [] h k = refl
@@ -182,8 +182,8 @@ join_snoc fs f a = (go (comparable (principal fs) f) refl, λ c. sym (join_princ
         let u : Prefix (principal fs) f = shorter_begins (principal fs) f c (let k = ltb-true (length (principal fs)) (length f) e in omega arith) in
         record { upper = bounds_snoc f f fs (bounds_more (principal fs) f fs b u) (prefix_self f); least = λ q w. (bounds_front q f fs w).1 }
     joined c false e =
-        let u : Prefix f (principal fs) = shorter_begins f (principal fs) (comparable-swap (principal fs) f c) (ltb-false (length (principal fs)) (length f) e) in
-        record { upper = bounds_snoc (principal fs) f fs b u; least = λ q w. principal-least fs q (bounds_front q f fs w).0 }
+        let u : Prefix f (principal fs) = shorter_begins f (principal fs) (comparable_swap (principal fs) f c) (ltb-false (length (principal fs)) (length f) e) in
+        record { upper = bounds_snoc (principal fs) f fs b u; least = λ q w. principal_least fs q (bounds_front q f fs w).0 }
 
     go : (t : Bool) → comparable (principal fs) f ≡ t → agree (fs ++ f ∷ []) ≡ t
     go true c = (join_principal (fs ++ f ∷ []) _ (joined c (ltb (length (principal fs)) (length f)) refl)).0
@@ -192,25 +192,25 @@ join_snoc fs f a = (go (comparable (principal fs) f) refl, λ c. sym (join_princ
         apart : (t : Bool) → agree (fs ++ f ∷ []) ≡ t → t ≡ false
         apart true e =
             let w = bounds_front (principal (fs ++ f ∷ [])) f fs (principal_bounds (fs ++ f ∷ []) e) in
-            let d : comparable (principal fs) f ≡ true = prefixes_compare (principal fs) f (principal (fs ++ f ∷ [])) (prefix_begins _ _ (principal-least fs _ w.0)) (prefix_begins _ _ w.1) in
+            let d : comparable (principal fs) f ≡ true = prefixes_compare (principal fs) f (principal (fs ++ f ∷ [])) (prefix_begins _ _ (principal_least fs _ w.0)) (prefix_begins _ _ w.1) in
             absurd (both_ways (comparable (principal fs) f) c d)
         apart false e = refl
 
 -- ---- cells
 
-pub ends-split : (w s : Shape) → ends w s ≡ true → s ≡ frame_of w s ++ w
-ends-split w s h =
+pub ends_split : (w s : Shape) → ends w s ≡ true → s ≡ frame_of w s ++ w
+ends_split w s h =
     let e : drop (length s - length w) s ≡ w = same_equal _ _ (and_parts _ _ h).1 in
     sym (ap (λ (z : Shape). take (length s - length w) s ++ z) (sym e) ∙ take-append-drop (length s - length w) s)
 
-pub frame-length : (f w : Shape) → length (f ++ w) - length w ≡ length f
-frame-length f w = rw length-append (omega arith)
+pub frame_length : (f w : Shape) → length (f ++ w) - length w ≡ length f
+frame_length f w = rw length-append (omega arith)
 
 pub frame_is : (f w : Shape) → frame_of w (f ++ w) ≡ f
-frame_is f w = rw frame-length (take_at f w (length f) refl)
+frame_is f w = rw frame_length (take_at f w (length f) refl)
 
 pub cell_is : (f w : Shape) → drop (length (f ++ w) - length w) (f ++ w) ≡ w
-cell_is f w = rw frame-length (drop_at f w (length f) refl)
+cell_is f w = rw frame_length (drop_at f w (length f) refl)
 
-pub ends-append : (f w : Shape) → ends w (f ++ w) ≡ true
-ends-append f w = and_from _ _ (le-leb (length w) (length (f ++ w)) (rw length-append (omega arith))) (rw (cell_is f w) (same_self w))
+pub ends_append : (f w : Shape) → ends w (f ++ w) ≡ true
+ends_append f w = and_from _ _ (le-leb (length w) (length (f ++ w)) (rw length-append (omega arith))) (rw (cell_is f w) (same_self w))

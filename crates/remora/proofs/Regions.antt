@@ -7,7 +7,7 @@ use Rattle.remora.specs.Formulas.{ArrayType, shaped, no_type, TypedLine, literal
 use Rattle.remora.specs.Evaluation.{Array, array_of, no_array, repeats, cell_at, cells_at}
 use Rattle.remora.specs.Forecasts.{atoms}
 use Rattle.remora.specs.Machine.{part, put, Source, cell_place, cell_places}
-use Rattle.remora.proofs.Lifting.{length_part, lift-at, cell-within, repeats_is}
+use Rattle.remora.proofs.Lifting.{length_part, lift_at, cell_within, repeats_is}
 use Rattle.remora.proofs.Sizes.{Fit, Lifts, none, one}
 
 -- ---- stores that differ only in a part
@@ -49,18 +49,18 @@ put_same lo hi S p xs a b c =
       long = simp (length-append, l, d) (omega arith);
     }
 
-pub put-part : {X : Type 0} (S : List X) (p n : ℕ) (xs : List X) → length xs ≡ n → p + length xs ≤ length S → part (put S p xs) p n ≡ xs
-put-part S p n xs e h =
+pub put_part : {X : Type 0} (S : List X) (p n : ℕ) (xs : List X) → length xs ≡ n → p + length xs ≤ length S → part (put S p xs) p n ≡ xs
+put_part S p n xs e h =
     ap (take n) (drop_at (take p S) (xs ++ drop (p + length xs) S) p (length-take-le p S (omega arith))) ∙ take_at xs (drop (p + length xs) S) n e
 
 pub part_same : {X : Type 0} (lo hi : ℕ) (S T : List X) (p n : ℕ) → Same lo hi S T → p + n ≤ lo → part T p n ≡ part S p n
 part_same lo hi S T p n a h = sym (drop-take p n T) ∙ ap (drop p) (take_less (p + n) lo S T h a.low) ∙ drop-take p n S
 
-pub part-add : {X : Type 0} (S : List X) (p m n : ℕ) → part S p (m + n) ≡ part S p m ++ part S (p + m) n
-part-add {X} S p m n = take-add m n (drop p S) ∙ ap (λ (T : List X). take m (drop p S) ++ take n T) (drop-drop m p S)
+pub part_add : {X : Type 0} (S : List X) (p m n : ℕ) → part S p (m + n) ≡ part S p m ++ part S (p + m) n
+part_add {X} S p m n = take-add m n (drop p S) ∙ ap (λ (T : List X). take m (drop p S) ++ take n T) (drop-drop m p S)
 
-part-part : {X : Type 0} (S : List X) (p n j k : ℕ) → j + k ≤ n → part (part S p n) j k ≡ part S (p + j) k
-part-part S p n j k h =
+part_part : {X : Type 0} (S : List X) (p n j k : ℕ) → j + k ≤ n → part (part S p n) j k ≡ part S (p + j) k
+part_part S p n j k h =
     sym (drop-take j k (part S p n)) ∙ ap (drop j) (take-take (j + k) n (drop p S) h) ∙ drop-take j k (drop p S) ∙ ap (take k) (drop-drop j p S)
 
 -- ---- regions: an array in the store
@@ -139,23 +139,23 @@ reads_at S [] i = refl
 reads_at S (s ∷ L) zero = refl
 reads_at S (s ∷ L) (suc i) = reads_at S L i
 
-pub reads-last : {X : Type 0} (S : List X) (d : Region) (L : List Region) → last_or (read S d) (reads S L) ≡ read S (last_or d L)
-reads-last S d [] = refl
-reads-last S d (s ∷ L) = reads-last S s L
+pub reads_last : {X : Type 0} (S : List X) (d : Region) (L : List Region) → last_or (read S d) (reads S L) ≡ read S (last_or d L)
+reads_last S d [] = refl
+reads_last S d (s ∷ L) = reads_last S s L
 
-pub reads-length : {X : Type 0} (S : List X) (L : List Region) → length (reads S L) ≡ length L
-reads-length S [] = refl
-reads-length S (s ∷ L) = ap suc (reads-length S L)
+pub reads_length : {X : Type 0} (S : List X) (L : List Region) → length (reads S L) ≡ length L
+reads_length S [] = refl
+reads_length S (s ∷ L) = ap suc (reads_length S L)
 
 pub reads_fit : {X : Type 0} (S : List X) (q : ℕ) (L : List Region) → Below q L → q ≤ length S → Fit (region_types L) (reads S L)
 reads_fit S q [] h k = tt
 reads_fit S q (s ∷ L) h k = (refl, length_part s.place (long s) S (let u = h.0 in omega arith), reads_fit S q L h.1 k)
 
-pub regions-place : (ts : List ArrayType) (qs : List ℕ) (k : ℕ) → k < length ts → (get_or (regions ts qs) k no_region).place ≡ get_or qs k 0
-regions-place [] qs k h = absurd (omega arith)
-regions-place (t ∷ ts) [] k h = refl
-regions-place (t ∷ ts) (q ∷ qs) zero h = refl
-regions-place (t ∷ ts) (q ∷ qs) (suc k) h = regions-place ts qs k (omega arith)
+pub regions_place : (ts : List ArrayType) (qs : List ℕ) (k : ℕ) → k < length ts → (get_or (regions ts qs) k no_region).place ≡ get_or qs k 0
+regions_place [] qs k h = absurd (omega arith)
+regions_place (t ∷ ts) [] k h = refl
+regions_place (t ∷ ts) (q ∷ qs) zero h = refl
+regions_place (t ∷ ts) (q ∷ qs) (suc k) h = regions_place ts qs k (omega arith)
 
 -- ---- the layout of an activation: P are its parameters' regions
 
@@ -173,19 +173,19 @@ abbrev pub behind : ℕ → List TypedLine → ℕ
 behind q [] = q
 behind q (r ∷ rs) = behind (q + atoms r) rs
 
-pub region-type : (P : List Region) (q : ℕ) (r : TypedLine) → (region_of P q r).type ≡ type_of r
-region-type P q (literal s xs) = refl
-region-type P q (parameter k s) = refl
-region-type P q (frame os p s) = refl
-region-type P q (application f os p s) = refl
+pub region_type : (P : List Region) (q : ℕ) (r : TypedLine) → (region_of P q r).type ≡ type_of r
+region_type P q (literal s xs) = refl
+region_type P q (parameter k s) = refl
+region_type P q (frame os p s) = refl
+region_type P q (application f os p s) = refl
 
-pub layout-append : (P : List Region) (b : ℕ) (past rest : List TypedLine) → layout P b (past ++ rest) ≡ layout P b past ++ layout P (behind b past) rest
-layout-append P b [] rest = refl
-layout-append P b (s ∷ past) rest = ap (λ (l : List Region). region_of P b s ∷ l) (layout-append P (b + atoms s) past rest)
+pub layout_append : (P : List Region) (b : ℕ) (past rest : List TypedLine) → layout P b (past ++ rest) ≡ layout P b past ++ layout P (behind b past) rest
+layout_append P b [] rest = refl
+layout_append P b (s ∷ past) rest = ap (λ (l : List Region). region_of P b s ∷ l) (layout_append P (b + atoms s) past rest)
 
-pub layout-length : (P : List Region) (b : ℕ) (rs : List TypedLine) → length (layout P b rs) ≡ length rs
-layout-length P b [] = refl
-layout-length P b (r ∷ rs) = ap suc (layout-length P (b + atoms r) rs)
+pub layout_length : (P : List Region) (b : ℕ) (rs : List TypedLine) → length (layout P b rs) ≡ length rs
+layout_length P b [] = refl
+layout_length P b (r ∷ rs) = ap suc (layout_length P (b + atoms r) rs)
 
 pub behind_snoc : (b : ℕ) (past : List TypedLine) (r : TypedLine) → behind b (past ++ r ∷ []) ≡ behind b past + atoms r
 behind_snoc b [] r = refl
@@ -195,13 +195,13 @@ pub behind_le : (b : ℕ) (past : List TypedLine) → b ≤ behind b past
 behind_le b [] = omega arith
 behind_le b (s ∷ past) = let h = behind_le (b + atoms s) past in omega arith
 
-pub behind-add : (a b : ℕ) (rs : List TypedLine) → behind (a + b) rs ≡ a + behind b rs
-behind-add a b [] = refl
-behind-add a b (r ∷ rs) = ap (λ (q : ℕ). behind q rs) (add_assoc a b (atoms r)) ∙ behind-add a (b + atoms r) rs
+pub behind_add : (a b : ℕ) (rs : List TypedLine) → behind (a + b) rs ≡ a + behind b rs
+behind_add a b [] = refl
+behind_add a b (r ∷ rs) = ap (λ (q : ℕ). behind q rs) (add_assoc a b (atoms r)) ∙ behind_add a (b + atoms r) rs
 
-pub layout-last : (P : List Region) (b : ℕ) (rs : List TypedLine) (d : Region) (x : TypedLine) → d.type ≡ type_of x → (last_or d (layout P b rs)).type ≡ type_of (last_or x rs)
-layout-last P b [] d x e = e
-layout-last P b (r ∷ rs) d x e = layout-last P (b + atoms r) rs (region_of P b r) r (region-type P b r)
+pub layout_last : (P : List Region) (b : ℕ) (rs : List TypedLine) (d : Region) (x : TypedLine) → d.type ≡ type_of x → (last_or d (layout P b rs)).type ≡ type_of (last_or x rs)
+layout_last P b [] d x e = e
+layout_last P b (r ∷ rs) d x e = layout_last P (b + atoms r) rs (region_of P b r) r (region_type P b r)
 
 -- ---- an operand's cells, by their places
 
@@ -214,29 +214,29 @@ sources_of L p [] os = []
 sources_of L p (w ∷ ws) [] = []
 sources_of L p (w ∷ ws) (o ∷ os) = source_of (get_or L o no_region) p w ∷ sources_of L p ws os
 
-cell-read : {X : Type 0} (S : List X) (r : Region) (p : Shape) (w : ArrayType) (f s : Shape) (c : ℕ) → r.type ≡ shaped w.base (f ++ w.shape) → p ≡ f ++ s → c < size p
+cell_read : {X : Type 0} (S : List X) (r : Region) (p : Shape) (w : ArrayType) (f s : Shape) (c : ℕ) → r.type ≡ shaped w.base (f ++ w.shape) → p ≡ f ++ s → c < size p
     → read S (region w (cell_place (source_of r p w) c)) ≡ cell_at p w (read S r) c
-cell-read S r p w f s c e u k =
+cell_read S r p w f s c e u k =
     let k' : c < size (f ++ s) = rw u at k in
     rw (u, e) (ap (array_of w) (ap (λ (n : ℕ). part S (r.place + (c / n) * size w.shape) (size w.shape)) (repeats_is f s w.shape)
-    ∙ sym (lift-at f s w.shape (part S r.place (size (f ++ w.shape))) c k'
-    ∙ part-part S r.place (size (f ++ w.shape)) ((c / size s) * size w.shape) (size w.shape) (cell-within f s w.shape c k'))))
+    ∙ sym (lift_at f s w.shape (part S r.place (size (f ++ w.shape))) c k'
+    ∙ part_part S r.place (size (f ++ w.shape)) ((c / size s) * size w.shape) (size w.shape) (cell_within f s w.shape c k'))))
 
 pub cell_below : (r : Region) (p : Shape) (w : ArrayType) (f s : Shape) (c q : ℕ) → r.type ≡ shaped w.base (f ++ w.shape) → p ≡ f ++ s → c < size p → r.place + long r ≤ q
     → cell_place (source_of r p w) c + size w.shape ≤ q
 cell_below r p w f s c q e u k h =
     let k' : c < size (f ++ s) = rw u at k in
     let h' : r.place + size (f ++ w.shape) ≤ q = rw e at h in
-    let b = cell-within f s w.shape c k' in
+    let b = cell_within f s w.shape c k' in
     rw (u, e, repeats_is f s w.shape) (omega arith)
 
 -- the operands' cells number c, read at their places
-pub cells-read : {X : Type 0} (S : List X) (L : List Region) (p : Shape) (c : ℕ) (ws : List ArrayType) (os : List ℕ) → c < size p → Lifts (region_types L) p ws os
+pub cells_read : {X : Type 0} (S : List X) (L : List Region) (p : Shape) (c : ℕ) (ws : List ArrayType) (os : List ℕ) → c < size p → Lifts (region_types L) p ws os
     → reads S (regions ws (cell_places (sources_of L p ws os) c)) ≡ cells_at (reads S L) p c ws os
-cells-read S L p c ws os k none = refl
-cells-read {X} S L p c ws os k (one {w = w} {ws = ws'} {o = o} {os = os'} f r i e u t) =
-    rw (cells-read S L p c ws' os' k t, reads_at S L o)
-    (ap (λ (z : Array X). z ∷ cells_at (reads S L) p c ws' os') (cell-read S (get_or L o no_region) p w f r c (types_at L o ∙ e) u k))
+cells_read S L p c ws os k none = refl
+cells_read {X} S L p c ws os k (one {w = w} {ws = ws'} {o = o} {os = os'} f r i e u t) =
+    rw (cells_read S L p c ws' os' k t, reads_at S L o)
+    (ap (λ (z : Array X). z ∷ cells_at (reads S L) p c ws' os') (cell_read S (get_or L o no_region) p w f r c (types_at L o ∙ e) u k))
 
 pub cells_below : (L : List Region) (q : ℕ) (p : Shape) (c : ℕ) (ws : List ArrayType) (os : List ℕ) → Below q L → c < size p → Lifts (region_types L) p ws os
     → Below q (regions ws (cell_places (sources_of L p ws os) c))

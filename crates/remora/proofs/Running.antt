@@ -10,10 +10,10 @@ use Rattle.remora.specs.Forecasts.{atoms, line_steps, lines_steps, if_any, calle
 use Rattle.remora.specs.Numbers.{pick, lines_of, known, eval, arguments}
 use Rattle.remora.specs.Machine.{Plan, no_plan, plan_of, plans, part, put, Activation, activation, is_parameter, place_of, sources, cell_places, on_samples, Snapshot, at, more, done, faulted, choose, settle, return, step_line, step}
 use Rattle.remora.specs.Calls.{parameter_atoms, parameter_places, needs, first_activation}
-use Rattle.remora.proofs.Lifting.{size-append}
+use Rattle.remora.proofs.Lifting.{size_append}
 use Rattle.remora.proofs.Sizes.{Lifts, Sound, s_parameter, s_application, SoundAll, then, Fit, LengthO, LengthC, Keeps, cells_at_fit, eval_line_length, keeps_all, known_here, known_below, eval_here, eval_below, entry_here, Sounds}
-use Rattle.remora.proofs.Regions.{Same, same_refl, same_trans, same_widen, put_same, put-part, part_same, part-add, Region, region, no_region, long, reads, regions, region_types, Below, below_mono, below_snoc, below_at, types_at, reads_same, reads_snoc, reads_at, reads-last, reads_fit, region_of, layout, behind, region-type, layout-append, behind_snoc, behind_le, layout-last, sources_of, cells-read, cells_below, cells_types}
-use Rattle.remora.proofs.Bridging.{plans-length, place-last, plans-last, layout_types, plan_here, place_here, sources_here, step_here, step_settles}
+use Rattle.remora.proofs.Regions.{Same, same_refl, same_trans, same_widen, put_same, put_part, part_same, part_add, Region, region, no_region, long, reads, regions, region_types, Below, below_mono, below_snoc, below_at, types_at, reads_same, reads_snoc, reads_at, reads_last, reads_fit, region_of, layout, behind, region_type, layout_append, behind_snoc, behind_le, layout_last, sources_of, cells_read, cells_below, cells_types}
+use Rattle.remora.proofs.Bridging.{plans_length, place_last, plans_last, layout_types, plan_here, place_here, sources_here, step_here, step_settles}
 
 abbrev pub store_of : Snapshot → List Sample
 store_of (at S ts) = S
@@ -54,11 +54,11 @@ module _ {m : Meaning} {Ok : Plans → Type 0} {d : ℕ} where
   runs_join stay q = rw zero-add q
   runs_join (move e a l r) q = rw suc-add (move e a l (runs_join r q))
 
-  runs-count : {lo hi j n : ℕ} {s t : Snapshot} → j ≡ n → Runs m Ok d lo hi j s t → Runs m Ok d lo hi n s t
-  runs-count {lo} {hi} {j} {n} {s} {t} e r = subst (λ k. Runs m Ok d lo hi k s t) e r
+  runs_count : {lo hi j n : ℕ} {s t : Snapshot} → j ≡ n → Runs m Ok d lo hi j s t → Runs m Ok d lo hi n s t
+  runs_count {lo} {hi} {j} {n} {s} {t} e r = subst (λ k. Runs m Ok d lo hi k s t) e r
 
-  runs-one : {lo hi : ℕ} {s t : Snapshot} → ((F : Plans) → Ok F → step m F s ≡ more t) → Same lo hi (store_of s) (store_of t) → length (activations_of t) ≤ d → Runs m Ok d lo hi 1 s t
-  runs-one e a l = move e a l stay
+  runs_one : {lo hi : ℕ} {s t : Snapshot} → ((F : Plans) → Ok F → step m F s ≡ more t) → Same lo hi (store_of s) (store_of t) → length (activations_of t) ≤ d → Runs m Ok d lo hi 1 s t
+  runs_one e a l = move e a l stay
 
   fails_area : {lo hi lo' hi' n j : ℕ} {s : Snapshot} {x : Fault Sample} → lo ≤ lo' → hi' ≤ hi → Fails m Ok d lo' hi' n j s x → Fails m Ok d lo hi n j s x
   fails_area h k f = record { before = f.before; after = f.after; early = f.early; runs = runs_widen h k f.runs; fails = f.fails; kept = same_widen h k f.kept }
@@ -66,8 +66,8 @@ module _ {m : Meaning} {Ok : Plans → Type 0} {d : ℕ} where
   fails_more : {lo hi n j k : ℕ} {s : Snapshot} {x : Fault Sample} → n ≤ k → Fails m Ok d lo hi n j s x → Fails m Ok d lo hi k j s x
   fails_more l f = record { before = f.before; after = f.after; early = let e = f.early in omega arith; runs = f.runs; fails = f.fails; kept = f.kept }
 
-  fails-later : {lo hi i n j k : ℕ} {s t : Snapshot} {x : Fault Sample} → Runs m Ok d lo hi i s t → Fails m Ok d lo hi n j t x → i + n ≤ k → Fails m Ok d lo hi k (i + j) s x
-  fails-later r f l = record { before = f.before; after = f.after; early = let e = f.early in omega arith; runs = runs_join r f.runs; fails = f.fails; kept = f.kept }
+  fails_later : {lo hi i n j k : ℕ} {s t : Snapshot} {x : Fault Sample} → Runs m Ok d lo hi i s t → Fails m Ok d lo hi n j t x → i + n ≤ k → Fails m Ok d lo hi k (i + j) s x
+  fails_later r f l = record { before = f.before; after = f.after; early = let e = f.early in omega arith; runs = runs_join r f.runs; fails = f.fails; kept = f.kept }
 
 -- how a stretch of n steps ends: in a snapshot of this form with the items at this place, or after j steps in the fault
 abbrev pub Ends : Meaning → (Plans → Type 0) → ℕ → ℕ → ℕ → ℕ → ℕ → Snapshot → (List Sample → Snapshot) → ℕ → ℕ → Outcome Sample → Type 0
@@ -150,12 +150,12 @@ unfolding step choose
 step_end m F g Q e b ps ts S c = rw (e, le-ltb (length Q) (length Q) (omega arith))
 
 module _ (m : Meaning) (Ok : Plans → Type 0) (d : ℕ) where
-  settle-ends : (hi : ℕ) (S : List Sample) (us : List Activation) (q n : ℕ) (here next : Activation) (ts : List Activation) (H : Cells Sample)
+  settle_ends : (hi : ℕ) (S : List Sample) (us : List Activation) (q n : ℕ) (here next : Activation) (ts : List Activation) (H : Cells Sample)
       → ((F : Plans) → Ok F → step m F (at S us) ≡ settle S q here next ts H) → suc (length ts) ≤ d → LengthC n H → q + n ≤ hi → hi ≤ length S
       → EndsC m Ok d q hi 1 0 (at S us) (λ T. at T (next ∷ ts)) q n H
   unfolding settle
-  settle-ends hi S us q n here next ts (all xs) e u l h k = (put S q xs, runs-one e (put_same q hi S q xs (omega arith) (omega arith) (omega arith)) u, put-part S q n xs l (omega arith))
-  settle-ends hi S us q n here next ts (upto xs x) e u l h k =
+  settle_ends hi S us q n here next ts (all xs) e u l h k = (put S q xs, runs_one e (put_same q hi S q xs (omega arith) (omega arith) (omega arith)) u, put_part S q n xs l (omega arith))
+  settle_ends hi S us q n here next ts (upto xs x) e u l h k =
       record { before = at S us; after = at (put S q xs) (here ∷ ts); early = omega arith; runs = stay; fails = e; kept = put_same q hi S q xs (omega arith) (omega arith) (omega arith) }
 
   -- one activation of formula g, whose typed lines are rows; formulas below n are good
@@ -212,25 +212,25 @@ module _ (m : Meaning) (Ok : Plans → Type 0) (d : ℕ) where
       abbrev CellsEnd : ℕ → ℕ → ℕ → List Sample → Cells Sample → Type 0
       CellsEnd j c k S H = EndsC m Ok d (q + c * K) hi (k * (1 + (E h).steps)) j (at S (activation g b ps (length past) c ∷ ts)) (λ U. at U (activation g b ps (length past) (size p) ∷ ts)) (q + c * K) (k * K) H
 
-      cell-one : (j c k : ℕ) (S : List Sample) (xs : List Sample) → c + suc k ≡ size p → q + N + (E h).room ≤ hi → hi ≤ length S → length xs ≡ K → Within j c S (yields xs)
+      cell_one : (j c k : ℕ) (S : List Sample) (xs : List Sample) → c + suc k ≡ size p → q + N + (E h).room ≤ hi → hi ≤ length S → length xs ≡ K → Within j c S (yields xs)
           → (T : List Sample) × Runs m Ok d (q + c * K) hi (1 + (E h).steps) (at S (activation g b ps (length past) c ∷ ts)) (at T (activation g b ps (length past) (suc c) ∷ ts)) × (part T (q + c * K) K ≡ xs)
-      cell-one j c k S xs cn fit long len (T, r, is) =
+      cell_one j c k S xs cn fit long len (T, r, is) =
           let f = cell_fits c k cn in
           let lt : length T ≡ length S = (runs_same r).long in
           let ln : length (part T (result_place c) K) ≡ K = ap length is ∙ len in
           let pos = (goods h l).some_steps in
           let pos' = (goods h l).some_depth in (
             put T (q + c * K) (part T (result_place c) K),
-            runs-count (omega arith) (runs_join (runs-one (enter_step c S (omega arith)) (same_refl _ _ S) (omega arith))
-                (runs_join (runs_widen (omega arith) (omega arith) r) (runs-one (leave_step c T) (put_same _ _ T (q + c * K) _ (omega arith) (omega arith) (omega arith)) deep))),
-            put-part T (q + c * K) K _ ln (omega arith) ∙ is,
+            runs_count (omega arith) (runs_join (runs_one (enter_step c S (omega arith)) (same_refl _ _ S) (omega arith))
+                (runs_join (runs_widen (omega arith) (omega arith) r) (runs_one (leave_step c T) (put_same _ _ T (q + c * K) _ (omega arith) (omega arith) (omega arith)) deep))),
+            put_part T (q + c * K) K _ ln (omega arith) ∙ is,
           )
 
       cell_join : (i j c k : ℕ) (S : List Sample) → c + suc k ≡ size p → q + N + (E h).room ≤ hi → hi ≤ length S → (x : Outcome Sample) (H : Cells Sample) → LengthO K x → Within i c S x
           → ((T : List Sample) → Same (q + c * K) hi S T → CellsEnd j (suc c) k T H) → CellsEnd (by_outcome x (1 + i) (1 + (E h).steps + j)) c (suc k) S (collapse x H)
       cell_join i j c k S cn fit long (yields xs) (all ys) len run next =
           let one : (T : List Sample) × Runs m Ok d (q + c * K) hi (1 + (E h).steps) (at S (activation g b ps (length past) c ∷ ts)) (at T (activation g b ps (length past) (suc c) ∷ ts)) × (part T (q + c * K) K ≡ xs)
-          = cell-one i c k S xs cn fit long len run in
+          = cell_one i c k S xs cn fit long len run in
           let two = next one.0 (runs_same one.1) in
           let v = suc-mul c K in
           let u = suc-mul k K in
@@ -240,35 +240,35 @@ module _ (m : Meaning) (Ok : Plans → Type 0) (d : ℕ) where
           let p1 : part two.0 (q + c * K) K ≡ xs = part_same (q + suc c * K) hi one.0 two.0 (q + c * K) K (runs_same two.1) (omega arith) ∙ one.2 in
           let p2 : part two.0 (q + c * K + K) (k * K) ≡ ys = rw n2 two.2 in (
             two.0,
-            runs-count (omega arith) (runs_join one.1 (runs_widen (omega arith) (omega arith) two.1)),
-            rw n1 (part-add two.0 (q + c * K) K (k * K) ∙ rw (p1, p2)),
+            runs_count (omega arith) (runs_join one.1 (runs_widen (omega arith) (omega arith) two.1)),
+            rw n1 (part_add two.0 (q + c * K) K (k * K) ∙ rw (p1, p2)),
           )
       cell_join i j c k S cn fit long (yields xs) (upto ys x) len run next =
           let one : (T : List Sample) × Runs m Ok d (q + c * K) hi (1 + (E h).steps) (at S (activation g b ps (length past) c ∷ ts)) (at T (activation g b ps (length past) (suc c) ∷ ts)) × (part T (q + c * K) K ≡ xs)
-          = cell-one i c k S xs cn fit long len run in
+          = cell_one i c k S xs cn fit long len run in
           let v = suc-mul c K in
           let w = suc-mul k (1 + (E h).steps) in
-          fails-later one.1 (fails_area (omega arith) (omega arith) (next one.0 (runs_same one.1))) (omega arith)
+          fails_later one.1 (fails_area (omega arith) (omega arith) (next one.0 (runs_same one.1))) (omega arith)
       cell_join i j c k S cn fit long (faults x) H len run next =
           let f = cell_fits c k cn in
           let w' = suc-mul k (1 + (E h).steps) in
           let pos' = (goods h l).some_depth in
-          fails-later (runs-one (enter_step c S (omega arith)) (same_refl _ _ S) (omega arith)) (fails_area (omega arith) (omega arith) run) (omega arith)
+          fails_later (runs_one (enter_step c S (omega arith)) (same_refl _ _ S) (omega arith)) (fails_area (omega arith) (omega arith) run) (omega arith)
 
-      cells-end : (k c : ℕ) (S : List Sample) (env : List (Array Sample)) → c + k ≡ size p → reads S L ≡ env → q ≤ length S → q + N + if_any (size p) (E h).room ≤ hi → hi ≤ length S
+      cells_end : (k c : ℕ) (S : List Sample) (env : List (Array Sample)) → c + k ≡ size p → reads S L ≡ env → q ≤ length S → q + N + if_any (size p) (E h).room ≤ hi → hi ≤ length S
           → CellsEnd (fault_cells (λ i. V h (cells_at env p i (E h).parameters os)) (λ i. W h (cells_at env p i (E h).parameters os)) (E h).steps c k) c k S (map_cells (λ i. V h (cells_at env p i (E h).parameters os)) c k)
-      cells-end zero c S env cn re lq fit long = let e : c ≡ size p = omega arith in (S, rw (zero-mul, ← e) stay, rw zero-mul)
-      cells-end (suc k) c S env cn re lq fit long =
+      cells_end zero c S env cn re lq fit long = let e : c ≡ size p = omega arith in (S, rw (zero-mul, ← e) stay, rw zero-mul)
+      cells_end (suc k) c S env cn re lq fit long =
           let lt : c < size p = omega arith in
           let f = cell_fits c k cn in
           let z : if_any (size p) (E h).room ≡ (E h).room = if_any_pos (size p) (E h).room (omega arith) in
           let fit' : q + N + (E h).room ≤ hi = omega arith in
           cell_join (W h (cells_at env p c (E h).parameters os)) (fault_cells (λ i. V h (cells_at env p i (E h).parameters os)) (λ i. W h (cells_at env p i (E h).parameters os)) (E h).steps (suc c) k) c k S cn fit' long (V h (cells_at env p c (E h).parameters os)) (map_cells (λ i. V h (cells_at env p i (E h).parameters os)) (suc c) k)
           (rw (← K-is, ← re) (kept h l _ (cells_at_fit (region_types L) (reads S L) p c (E h).parameters os (reads_fit S q L low lq) lt ok)))
-          (rw (← re, ← K-is, ← (cells-read S L p c (E h).parameters os lt ok))
+          (rw (← re, ← K-is, ← (cells_read S L p c (E h).parameters os lt ok))
           ((goods h l).ends S (q + N) (qs c) (activation g b ps (length past) c ∷ ts) (cells_types L p c (E h).parameters os ok)
           (below_mono q (q + N) _ (omega arith) (cells_below L q p c (E h).parameters os low lt ok)) (omega arith) w))
-          (λ T sm. cells-end k (suc c) T env (omega arith) (reads_same (q + c * K) hi S T L sm (below_mono q (q + c * K) L (omega arith) low) ∙ re) (omega arith) fit (omega arith))
+          (λ T sm. cells_end k (suc c) T env (omega arith) (reads_same (q + c * K) hi S T L sm (below_mono q (q + c * K) L (omega arith) low) ∙ re) (omega arith) fit (omega arith))
 
     call_ends : (past rest : List TypedLine) (h : ℕ) (os : List ℕ) (p : Shape) (t : ArrayType) → rows ≡ past ++ application (formula h) os p t ∷ rest → h < n
         → (S : List Sample) → Below (behind b past) (layout P b past) → suc (length ts) + (E h).depth ≤ d → Lifts (region_types (layout P b past)) p (E h).parameters os
@@ -277,11 +277,11 @@ module _ (m : Meaning) (Ok : Plans → Type 0) (d : ℕ) where
         (map_cells (λ i. V h (cells_at (reads S (layout P b past)) p i (E h).parameters os)) 0 (size p))
     unfolding step_line choose
     call_ends past rest h os p t e l S low w ok t-is fit long =
-        go _ _ (cells-end past rest h os p t e l (behind b past) refl (layout P b past) refl low w ok (size t.shape) refl (size (E h).result.shape) refl size_t
+        go _ _ (cells_end past rest h os p t e l (behind b past) refl (layout P b past) refl low w ok (size t.shape) refl (size (E h).result.shape) refl size_t
         (size p) 0 S _ (omega arith) refl (omega arith) fit long)
       where
         size_t : size t.shape ≡ size p * size (E h).result.shape
-        size_t = ap (λ (z : ArrayType). size z.shape) t-is ∙ size-append p (E h).result.shape
+        size_t = ap (λ (z : ArrayType). size z.shape) t-is ∙ size_append p (E h).result.shape
 
         leaves : (U : List Sample) (F : Plans) → Ok F → step m F (at U (activation g b ps (length past) (size p) ∷ ts)) ≡ more (at U (activation g b ps (suc (length past)) 0 ∷ ts))
         leaves U F o = step_here m n E params rows sound F g (here F o) b ps ts past rest (application (formula h) os p t) e U (size p) ∙ rw (le-ltb (size p) (size p) (omega arith))
@@ -293,7 +293,7 @@ module _ (m : Meaning) (Ok : Plans → Type 0) (d : ℕ) where
             let z : behind b past + 0 * size (E h).result.shape ≡ behind b past = omega arith in
             let is : part v.0 (behind b past) (size p * size (E h).result.shape) ≡ xs = rw z at v.2 in (
               v.0,
-              runs-count (omega arith) (runs_join (runs_widen (omega arith) (omega arith) v.1) (runs-one (leaves v.0) (same_refl _ _ v.0) deep)),
+              runs_count (omega arith) (runs_join (runs_widen (omega arith) (omega arith) v.1) (runs_one (leaves v.0) (same_refl _ _ v.0) deep)),
               rw size_t is,
             )
         go j (upto xs x) f = fails_more (omega arith) (fails_area (omega arith) (omega arith) f)
@@ -306,42 +306,42 @@ module _ (m : Meaning) (Ok : Plans → Type 0) (d : ℕ) where
       abbrev evaluated : List TypedLine → List Sample → TypedLine → Cells Sample
       evaluated past S r = eval_line m (on_samples m) E V g (reads S P) (reads S (layout P b past)) r
 
-      line-length : (past : List TypedLine) (r : TypedLine) → (S : List Sample) → Below (behind b past) (layout P b past)
+      line_length : (past : List TypedLine) (r : TypedLine) → (S : List Sample) → Below (behind b past) (layout P b past)
           → Sound m n E params (types_of past) r → behind b past + size (type_of r).shape ≤ hi → hi ≤ length S → LengthC (size (type_of r).shape) (evaluated past S r)
-      line-length past r S low t fit long =
+      line_length past r S low t fit long =
           let lb = behind_le b past in
           let fp : Fit params (reads S P) = rw ep at (reads_fit S b P bp (omega arith)) in
           eval_line_length m (on_samples m) n E V kept g params (reads S P) fp (types_of past) (reads S (layout P b past)) r
           (subst (λ (us : List ArrayType). Fit us (reads S (layout P b past))) (layout_types P b past) (reads_fit S (behind b past) (layout P b past) low (omega arith))) t
 
       -- a line that is settled in one step
-      settled-ends : (past rest : List TypedLine) (r : TypedLine) → rows ≡ past ++ r ∷ rest → (S : List Sample) → Below (behind b past) (layout P b past)
+      settled_ends : (past rest : List TypedLine) (r : TypedLine) → rows ≡ past ++ r ∷ rest → (S : List Sample) → Below (behind b past) (layout P b past)
           → Sound m n E params (types_of past) r → is_parameter (plan_of m E (types_of past) (behind 0 past) r).kind ≡ false
           → ((h : ℕ) (os : List ℕ) (p : Shape) (t : ArrayType) → r ≡ application (formula h) os p t → ⊥)
           → behind b past + size (type_of r).shape ≤ hi → hi ≤ length S
           → EndsC m Ok d (behind b past) hi 1 0 (at S (activation g b ps (length past) 0 ∷ ts)) (λ U. at U (activation g b ps (suc (length past)) 0 ∷ ts)) (behind b past) (size (type_of r).shape) (evaluated past S r)
-      settled-ends past rest r e S low t np nc fit long =
-          settle-ends hi S (activation g b ps (length past) 0 ∷ ts) (behind b past) (size (type_of r).shape) (activation g b ps (length past) 0) (activation g b ps (suc (length past)) 0) ts (evaluated past S r)
-          (λ F o. step_settles m n E params rows sound F g (here F o) b ps ts past rest r e V S 0 low (omega arith) t np nc) deep (line-length past r S low t fit long) fit long
+      settled_ends past rest r e S low t np nc fit long =
+          settle_ends hi S (activation g b ps (length past) 0 ∷ ts) (behind b past) (size (type_of r).shape) (activation g b ps (length past) 0) (activation g b ps (suc (length past)) 0) ts (evaluated past S r)
+          (λ F o. step_settles m n E params rows sound F g (here F o) b ps ts past rest r e V S 0 low (omega arith) t np nc) deep (line_length past r S low t fit long) fit long
 
-      line-ends : (past rest : List TypedLine) (r : TypedLine) → rows ≡ past ++ r ∷ rest → (S : List Sample) → Below (behind b past) (layout P b past)
+      line_ends : (past rest : List TypedLine) (r : TypedLine) → rows ≡ past ++ r ∷ rest → (S : List Sample) → Below (behind b past) (layout P b past)
           → Sound m n E params (types_of past) r → suc (length ts) + line_depth E r ≤ d
           → behind b past + atoms r + callee_room E r ≤ hi → hi ≤ length S → LineEnds (fault_line E V W (reads S (layout P b past)) r) past S r (evaluated past S r)
       unfolding step_line eval_line
-      line-ends past rest (literal t xs) e S low s w fit long = settled-ends past rest (literal t xs) e S low s refl (λ h os p u z. let y : ◌≡◌ {A = ℕ} 0 1 = cc in omega arith) (omega arith) long
-      line-ends past rest (parameter k t) e S low (s_parameter l is) w fit long = (
+      line_ends past rest (literal t xs) e S low s w fit long = settled_ends past rest (literal t xs) e S low s refl (λ h os p u z. let y : ◌≡◌ {A = ℕ} 0 1 = cc in omega arith) (omega arith) long
+      line_ends past rest (parameter k t) e S low (s_parameter l is) w fit long = (
         S,
-        runs-one (λ F o. step_here m n E params rows sound F g (here F o) b ps ts past rest (parameter k t) e S 0) (same_refl _ _ S) deep,
+        runs_one (λ F o. step_here m n E params rows sound F g (here F o) b ps ts past rest (parameter k t) e S 0) (same_refl _ _ S) deep,
         let sh : (get_or P k no_region).type ≡ t = types_at P k ∙ ap (λ (z : List ArrayType). get_or z k no_type) ep ∙ is in
             ap (λ (z : ArrayType). part S (get_or P k no_region).place (size z.shape)) (sym sh) ∙ sym (ap (λ (a : Array Sample). a.items) (reads_at S P k)),
       )
-      line-ends past rest (frame os p t) e S low s w fit long = settled-ends past rest (frame os p t) e S low s refl (λ h os p u z. let y : ◌≡◌ {A = ℕ} 0 1 = cc in omega arith) (omega arith) long
-      line-ends past rest (application (primitive o) os p t) e S low s w fit long = settled-ends past rest (application (primitive o) os p t) e S low s refl (λ h os p u z. let y : ◌≡◌ {A = ℕ} 0 1 = cc in omega arith) (omega arith) long
-      line-ends past rest (application (formula h) os p t) e S low (s_application l ok is) w fit long =
+      line_ends past rest (frame os p t) e S low s w fit long = settled_ends past rest (frame os p t) e S low s refl (λ h os p u z. let y : ◌≡◌ {A = ℕ} 0 1 = cc in omega arith) (omega arith) long
+      line_ends past rest (application (primitive o) os p t) e S low s w fit long = settled_ends past rest (application (primitive o) os p t) e S low s refl (λ h os p u z. let y : ◌≡◌ {A = ℕ} 0 1 = cc in omega arith) (omega arith) long
+      line_ends past rest (application (formula h) os p t) e S low (s_application l ok is) w fit long =
           call_ends past rest h os p t e l S low w (subst (λ (us : List ArrayType). Lifts us p (E h).parameters os) (sym (layout_types P b past)) ok) is fit long
-      line-ends past rest (application (fold o c k f) os p t) e S low s w fit long = settled-ends past rest (application (fold o c k f) os p t) e S low s refl (λ h os p u z. let y : ◌≡◌ {A = ℕ} 0 1 = cc in omega arith) (omega arith) long
-      line-ends past rest (application (append c j k f) os p t) e S low s w fit long = settled-ends past rest (application (append c j k f) os p t) e S low s refl (λ h os p u z. let y : ◌≡◌ {A = ℕ} 0 1 = cc in omega arith) (omega arith) long
-      line-ends past rest (application (reversal c k f) os p t) e S low s w fit long = settled-ends past rest (application (reversal c k f) os p t) e S low s refl (λ h os p u z. let y : ◌≡◌ {A = ℕ} 0 1 = cc in omega arith) (omega arith) long
+      line_ends past rest (application (fold o c k f) os p t) e S low s w fit long = settled_ends past rest (application (fold o c k f) os p t) e S low s refl (λ h os p u z. let y : ◌≡◌ {A = ℕ} 0 1 = cc in omega arith) (omega arith) long
+      line_ends past rest (application (append c j k f) os p t) e S low s w fit long = settled_ends past rest (application (append c j k f) os p t) e S low s refl (λ h os p u z. let y : ◌≡◌ {A = ℕ} 0 1 = cc in omega arith) (omega arith) long
+      line_ends past rest (application (reversal c k f) os p t) e S low s w fit long = settled_ends past rest (application (reversal c k f) os p t) e S low s refl (λ h os p u z. let y : ◌≡◌ {A = ℕ} 0 1 = cc in omega arith) (omega arith) long
 
       region_below : (q : ℕ) (types : List ArrayType) (r : TypedLine) → b ≤ q → Sound m n E params types r → (region_of P q r).place + long (region_of P q r) ≤ q + atoms r
       region_below q types (literal t xs) l ok = omega arith
@@ -367,7 +367,7 @@ module _ (m : Meaning) (Ok : Plans → Type 0) (d : ℕ) where
         where
           go : (x : Outcome Sample) → LinesEnd (j xs) rs (suc (length past)) t.0 x → LinesEnd (line_steps E r + j xs) (r ∷ rs) (length past) S x
           go (yields ys) u = (u.0, runs_join (runs_widen (behind_le b past) (omega arith) t.1) u.1, u.2)
-          go (faults x) f = fails-later (runs_widen (behind_le b past) (omega arith) t.1) f (omega arith)
+          go (faults x) f = fails_later (runs_widen (behind_le b past) (omega arith) t.1) f (omega arith)
       lines_join S past rs r args env (upto xs x) i j f next = fails_more (omega arith) (fails_area (behind_le b past) (omega arith) f)
 
       types_of_snoc : (past : List TypedLine) (r : TypedLine) → types_of (past ++ r ∷ []) ≡ types_of past ++ type_of r ∷ []
@@ -375,7 +375,7 @@ module _ (m : Meaning) (Ok : Plans → Type 0) (d : ℕ) where
       types_of_snoc (s ∷ past) r = ap (λ (us : List ArrayType). type_of s ∷ us) (types_of_snoc past r)
 
       layout_snoc : (past : List TypedLine) (r : TypedLine) → layout P b (past ++ r ∷ []) ≡ layout P b past ++ region_of P (behind b past) r ∷ []
-      layout_snoc past r = layout-append P b past (r ∷ [])
+      layout_snoc past r = layout_append P b past (r ∷ [])
 
       lines_end : (rest past : List TypedLine) (args env : List (Array Sample)) (S : List Sample) → rows ≡ past ++ rest → Below (behind b past) (layout P b past)
           → reads S P ≡ args → reads S (layout P b past) ≡ env
@@ -387,12 +387,12 @@ module _ (m : Meaning) (Ok : Plans → Type 0) (d : ℕ) where
           let re' : reads S (layout P b rows) ≡ env = rw e' re in (
             S,
             rw e' stay,
-            ap (λ (z : ArrayType). part S (last_or first (layout P b rows)).place (size z.shape)) (sym (layout-last P b rows first (literal no_type []) refl))
-                ∙ ap (λ (a : Array Sample). a.items) (sym (reads-last S first (layout P b rows)) ∙ ap (λ (z : List (Array Sample)). last_or no_array z) re'),
+            ap (λ (z : ArrayType). part S (last_or first (layout P b rows)).place (size z.shape)) (sym (layout_last P b rows first (literal no_type []) refl))
+                ∙ ap (λ (a : Array Sample). a.items) (sym (reads_last S first (layout P b rows)) ∙ ap (λ (z : List (Array Sample)). last_or no_array z) re'),
           )
       lines_end (r ∷ rs) past args env S e low ra re (then t u) w fit long =
           lines_join S past rs r args env (eval_line m (on_samples m) E V g args env r) (fault_line E V W env r) (λ xs. fault_lines m E V W g args (env ++ array_of (type_of r) xs ∷ []) rs)
-          (rw (← ra, ← re) (line-ends past rs r e S low t (omega arith) (omega arith) long))
+          (rw (← ra, ← re) (line_ends past rs r e S low t (omega arith) (omega arith) long))
           (λ T xs sm is.
           let lb = behind_le b past in
           let lt = sm.long in
@@ -402,7 +402,7 @@ module _ (m : Meaning) (Ok : Plans → Type 0) (d : ℕ) where
           (rw (behind_snoc b past r, layout_snoc past r)
           (below_snoc _ (layout P b past) _ (below_mono _ _ (layout P b past) (omega arith) low) (region_below (behind b past) (types_of past) r lb t)))
           (reads_same (behind b past) hi S T P sm (below_mono b (behind b past) P lb bp) ∙ ra)
-          (rw (layout_snoc past r) (reads_snoc T (layout P b past) _ ∙ rw (reads_same (behind b past) hi S T (layout P b past) sm low, re, region-type P (behind b past) r, is)))
+          (rw (layout_snoc past r) (reads_snoc T (layout P b past) _ ∙ rw (reads_same (behind b past) hi S T (layout P b past) sm low, re, region_type P (behind b past) r, is)))
           (rw (types_of_snoc past r) u) (omega arith) (rw (behind_snoc b past r) (omega arith)) (omega arith)))
 
 room_shift : (E : ℕ → Entry) (a b : ℕ) (rs : List TypedLine) → room_from E (a + b) rs ≡ a + room_from E b rs
@@ -442,13 +442,13 @@ goods_all m Ok d (f ∷ fs) agree t g l = go (cases_eq g (length fs)) (goods_all
     new ih = record {
       some_steps = omega arith;
       some_depth = omega arith;
-      last_type = plans-last m (known m fs) [] 0 rs no_plan (literal no_type []) refl;
+      last_type = plans_last m (known m fs) [] 0 rs no_plan (literal no_type []) refl;
       ends = λ S b ps ts ep bp long deep.
           let z : b + room_from (known m fs) 0 rs ≡ room_from (known m fs) b rs = sym (room_shift (known m fs) b 0 rs) ∙ rw add-zero in
           let w : 1 + lines_steps (known m fs) rs - 1 ≡ lines_steps (known m fs) rs = omega arith in
-          let lq : length Q ≡ length rs = plans-length m (known m fs) [] 0 rs in
+          let lq : length Q ≡ length rs = plans_length m (known m fs) [] 0 rs in
           let pl : place_of b ps (last_or no_plan Q) ≡ (last_or (region no_type b) (layout (regions f.parameters ps) b rs)).place =
-          place-last m (known m fs) (length fs) f.parameters [] b ps 0 rs no_plan (region no_type b) t.0 (add-zero b)
+          place_last m (known m fs) (length fs) f.parameters [] b ps 0 rs no_plan (region no_type b) t.0 (add-zero b)
           ∙ ap (λ (i : ℕ). (last_or (region no_type b) (layout (regions f.parameters ps) i rs)).place) (add-zero b) in
           rw (w, lq, pl, eval_here m (on_samples m) f fs (reads S (regions f.parameters ps)), fault_step_here m f fs (reads S (regions f.parameters ps)))
           (lines_end m Ok d (length fs) (known m fs) (planned m fs) (eval m (on_samples m) fs) (fault_step m fs) (λ F o h k. agree F o h (omega arith) ∙ planned_below m f fs h k) ih (keeps_all m (on_samples m) fs t.1)
@@ -501,11 +501,11 @@ abbrev pub Story : Meaning → (Plans → Type 0) → ℕ → ℕ → ℕ → �
 Story m Ok d hi n j s k (yields xs) = Finishes m Ok d hi n s k xs
 Story m Ok d hi n j s k (faults x) = Fails m Ok d 0 hi n j s x
 
-pub run-from : (m : Meaning) (Ok : Plans → Type 0) (g : ℕ) (e : Entry) (v : List (Array Sample) → Outcome Sample) (w : List (Array Sample) → ℕ) (Q : List Plan) → ((F : Plans) → Ok F → F g ≡ Q) → Good m Ok e.depth e v w g Q
+pub run_from : (m : Meaning) (Ok : Plans → Type 0) (g : ℕ) (e : Entry) (v : List (Array Sample) → Outcome Sample) (w : List (Array Sample) → ℕ) (Q : List Plan) → ((F : Plans) → Ok F → F g ≡ Q) → Good m Ok e.depth e v w g Q
     → (S xs : List Sample) → length xs ≡ parameter_atoms e.parameters → needs e ≤ length S
     → Story m Ok e.depth (needs e) e.steps (w (arguments e.parameters xs)) (at (put S 0 xs) (first_activation e g ∷ [])) (size e.result.shape) (v (arguments e.parameters xs))
 unfolding return
-run-from m Ok g e v w Q here gd S xs len room = go (v (arguments e.parameters xs)) ends
+run_from m Ok g e v w Q here gd S xs len room = go (v (arguments e.parameters xs)) ends
   where
     same : Same 0 (length S) S (put S 0 xs)
     same = put_same 0 (length S) S 0 xs (omega arith) (omega arith) (omega arith)

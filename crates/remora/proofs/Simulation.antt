@@ -16,36 +16,36 @@ use Rattle.remora.proofs.Sizes.{Lifts, none, one, FunctionFits, Sound, s_literal
 -- ---- the list functions commute with maps
 
 module _ {X Y : Type 0} (f : X → Y) where
-  split-map : (m k : ℕ) (xs : List X) → split m k (map f xs) ≡ map (map f) (split m k xs)
-  split-map zero k xs = refl
-  split-map (suc m) k xs = rw (take-map f k xs, drop-map f k xs, split-map m k (drop k xs))
+  split_map : (m k : ℕ) (xs : List X) → split m k (map f xs) ≡ map (map f) (split m k xs)
+  split_map zero k xs = refl
+  split_map (suc m) k xs = rw (take-map f k xs, drop-map f k xs, split_map m k (drop k xs))
 
-  replicate-map : (r : ℕ) (x : X) → map f (replicate r x) ≡ replicate r (f x)
-  replicate-map zero x = refl
-  replicate-map (suc r) x = ap (λ (l : List Y). f x ∷ l) (replicate-map r x)
+  replicate_map : (r : ℕ) (x : X) → map f (replicate r x) ≡ replicate r (f x)
+  replicate_map zero x = refl
+  replicate_map (suc r) x = ap (λ (l : List Y). f x ∷ l) (replicate_map r x)
 
-  concat-map : (xs : List (List X)) → concat (map (map f) xs) ≡ map f (concat xs)
-  concat-map [] = refl
-  concat-map (x ∷ xs) = rw (concat-map xs) (sym (map-append f x (concat xs)))
+  concat_map : (xs : List (List X)) → concat (map (map f) xs) ≡ map f (concat xs)
+  concat_map [] = refl
+  concat_map (x ∷ xs) = rw (concat_map xs) (sym (map-append f x (concat xs)))
 
   get_or_map_at : (xs : List X) (i : ℕ) (d : X) → get_or (map f xs) i (f d) ≡ f (get_or xs i d)
   get_or_map_at [] i d = refl
   get_or_map_at (x ∷ xs) zero d = refl
   get_or_map_at (x ∷ xs) (suc i) d = get_or_map_at xs i d
 
-  reverse-map : (xs : List X) → reverse (map f xs) ≡ map f (reverse xs)
-  reverse-map [] = refl
-  reverse-map (x ∷ xs) = reverse-append (f x ∷ []) (map f xs) ∙ rw (reverse-map xs) (sym (ap (map f) (reverse-append (x ∷ []) xs) ∙ map-append f (reverse xs) (x ∷ [])))
+  reverse_map : (xs : List X) → reverse (map f xs) ≡ map f (reverse xs)
+  reverse_map [] = refl
+  reverse_map (x ∷ xs) = reverse-append (f x ∷ []) (map f xs) ∙ rw (reverse_map xs) (sym (ap (map f) (reverse-append (x ∷ []) xs) ∙ map-append f (reverse xs) (x ∷ [])))
 
 module _ {X Y : Type 0} (f : X → Y) where
-  rep-map : (r : ℕ) (xs : List (List X)) → rep r (map (map f) xs) ≡ map (map f) (rep r xs)
-  rep-map r [] = refl
-  rep-map r (x ∷ xs) = rw (rep-map r xs, ← (replicate-map (map f) r x)) (sym (map-append (map f) (replicate r x) (rep r xs)))
+  rep_map : (r : ℕ) (xs : List (List X)) → rep r (map (map f) xs) ≡ map (map f) (rep r xs)
+  rep_map r [] = refl
+  rep_map r (x ∷ xs) = rw (rep_map r xs, ← (replicate_map (map f) r x)) (sym (map-append (map f) (replicate r x) (rep r xs)))
 
-  lift-map : (p w s : Shape) (xs : List X) (c : ℕ) → get_or (lift p w s (map f xs)) c [] ≡ map f (get_or (lift p w s xs) c [])
-  lift-map p w s xs c =
-      ap (λ (z : List (List Y)). get_or (rep (repeats p w s) z) c []) (split-map f (size (frame_of w s)) (size w) xs)
-      ∙ ap (λ (z : List (List Y)). get_or z c []) (rep-map (repeats p w s) (split (size (frame_of w s)) (size w) xs)) ∙ get_or_map_at (map f) (lift p w s xs) c []
+  lift_map : (p w s : Shape) (xs : List X) (c : ℕ) → get_or (lift p w s (map f xs)) c [] ≡ map f (get_or (lift p w s xs) c [])
+  lift_map p w s xs c =
+      ap (λ (z : List (List Y)). get_or (rep (repeats p w s) z) c []) (split_map f (size (frame_of w s)) (size w) xs)
+      ∙ ap (λ (z : List (List Y)). get_or z c []) (rep_map (repeats p w s) (split (size (frame_of w s)) (size w) xs)) ∙ get_or_map_at (map f) (lift p w s xs) c []
 
 -- ---- codes in their sets
 
@@ -84,25 +84,25 @@ module _ (holds : ℕ → ℕ → Bool) (b : ℕ) where
   all_replicate zero x h = tt
   all_replicate (suc r) x h = (h, all_replicate r x h)
 
-  all-rep : (r : ℕ) (xs : List (List ℕ)) → InAll xs → InAll (rep r xs)
-  all-rep r [] h = tt
-  all-rep r (x ∷ xs) h = all_append (replicate r x) (rep r xs) (all_replicate r x h.0) (all-rep r xs h.1)
+  all_rep : (r : ℕ) (xs : List (List ℕ)) → InAll xs → InAll (rep r xs)
+  all_rep r [] h = tt
+  all_rep r (x ∷ xs) h = all_append (replicate r x) (rep r xs) (all_replicate r x h.0) (all_rep r xs h.1)
 
-  all-at : (xs : List (List ℕ)) (i : ℕ) → InAll xs → InSet holds b (get_or xs i [])
-  all-at [] i h = tt
-  all-at (x ∷ xs) zero h = h.0
-  all-at (x ∷ xs) (suc i) h = all-at xs i h.1
+  all_at : (xs : List (List ℕ)) (i : ℕ) → InAll xs → InSet holds b (get_or xs i [])
+  all_at [] i h = tt
+  all_at (x ∷ xs) zero h = h.0
+  all_at (x ∷ xs) (suc i) h = all_at xs i h.1
 
-  all-concat : (xs : List (List ℕ)) → InAll xs → InSet holds b (concat xs)
-  all-concat [] h = tt
-  all-concat (x ∷ xs) h = in_append x (concat xs) h.0 (all-concat xs h.1)
+  all_concat : (xs : List (List ℕ)) → InAll xs → InSet holds b (concat xs)
+  all_concat [] h = tt
+  all_concat (x ∷ xs) h = in_append x (concat xs) h.0 (all_concat xs h.1)
 
-  all-reverse : (xs : List (List ℕ)) → InAll xs → InAll (reverse xs)
-  all-reverse [] h = tt
-  all-reverse (x ∷ xs) h = rw (reverse-append (x ∷ []) xs) (all_append (reverse xs) (x ∷ []) (all-reverse xs h.1) (h.0, tt))
+  all_reverse : (xs : List (List ℕ)) → InAll xs → InAll (reverse xs)
+  all_reverse [] h = tt
+  all_reverse (x ∷ xs) h = rw (reverse-append (x ∷ []) xs) (all_append (reverse xs) (x ∷ []) (all_reverse xs h.1) (h.0, tt))
 
   lift_in : (p w s : Shape) (xs : List ℕ) (c : ℕ) → InSet holds b xs → InSet holds b (get_or (lift p w s xs) c [])
-  lift_in p w s xs c h = all-at (lift p w s xs) c (all-rep (repeats p w s) (split (size (frame_of w s)) (size w) xs) (all_split (size (frame_of w s)) (size w) xs h))
+  lift_in p w s xs c h = all_at (lift p w s xs) c (all_rep (repeats p w s) (split (size (frame_of w s)) (size w) xs) (all_split (size (frame_of w s)) (size w) xs h))
 
 -- ---- an operator on codes and on their samples
 
@@ -112,22 +112,22 @@ samples_of [] cs = []
 samples_of (b ∷ bs) [] = []
 samples_of (b ∷ bs) (c ∷ cs) = sample_of b c ∷ samples_of bs cs
 
-samples-bases : (holds : ℕ → ℕ → Bool) (bs cs : List ℕ) → all_held holds bs cs ≡ true → of_bases bs (samples_of bs cs) ≡ true
-samples-bases holds [] [] h = refl
-samples-bases holds [] (c ∷ cs) h = absurd (both_ways false refl h)
-samples-bases holds (b ∷ bs) [] h = absurd (both_ways false refl h)
-samples-bases holds (b ∷ bs) (c ∷ cs) h = and_from _ _ (eq-eqb b b refl) (samples-bases holds bs cs (Rattle.std.proofs.lemmas.Bool.and_parts (holds b c) (all_held holds bs cs) h).1)
+samples_bases : (holds : ℕ → ℕ → Bool) (bs cs : List ℕ) → all_held holds bs cs ≡ true → of_bases bs (samples_of bs cs) ≡ true
+samples_bases holds [] [] h = refl
+samples_bases holds [] (c ∷ cs) h = absurd (both_ways false refl h)
+samples_bases holds (b ∷ bs) [] h = absurd (both_ways false refl h)
+samples_bases holds (b ∷ bs) (c ∷ cs) h = and_from _ _ (eq-eqb b b refl) (samples_bases holds bs cs (Rattle.std.proofs.lemmas.Bool.and_parts (holds b c) (all_held holds bs cs) h).1)
 
-samples-codes : (holds : ℕ → ℕ → Bool) (bs cs : List ℕ) → all_held holds bs cs ≡ true → codes_of (samples_of bs cs) ≡ cs
-samples-codes holds [] [] h = refl
-samples-codes holds [] (c ∷ cs) h = absurd (both_ways false refl h)
-samples-codes holds (b ∷ bs) [] h = absurd (both_ways false refl h)
-samples-codes holds (b ∷ bs) (c ∷ cs) h = ap (λ (z : List ℕ). c ∷ z) (samples-codes holds bs cs (Rattle.std.proofs.lemmas.Bool.and_parts (holds b c) (all_held holds bs cs) h).1)
+samples_codes : (holds : ℕ → ℕ → Bool) (bs cs : List ℕ) → all_held holds bs cs ≡ true → codes_of (samples_of bs cs) ≡ cs
+samples_codes holds [] [] h = refl
+samples_codes holds [] (c ∷ cs) h = absurd (both_ways false refl h)
+samples_codes holds (b ∷ bs) [] h = absurd (both_ways false refl h)
+samples_codes holds (b ∷ bs) (c ∷ cs) h = ap (λ (z : List ℕ). c ∷ z) (samples_codes holds bs cs (Rattle.std.proofs.lemmas.Bool.and_parts (holds b c) (all_held holds bs cs) h).1)
 
-applied-samples : (m : Meaning) (o : ℕ) (cs : List ℕ) → o < m.operators → all_held m.holds (m.operator o).operands cs ≡ true
+applied_samples : (m : Meaning) (o : ℕ) (cs : List ℕ) → o < m.operators → all_held m.holds (m.operator o).operands cs ≡ true
     → applied m o (samples_of (m.operator o).operands cs) ≡ of_assigned (m.operator o).result (m.assign o cs)
 unfolding applied
-applied-samples m o cs i h = rw (lt-ltb o m.operators i, samples-bases m.holds (m.operator o).operands cs h, samples-codes m.holds (m.operator o).operands cs h)
+applied_samples m o cs i h = rw (lt-ltb o m.operators i, samples_bases m.holds (m.operator o).operands cs h, samples_codes m.holds (m.operator o).operands cs h)
 
 -- ---- the two evaluations side by side: x on codes, y on samples
 
@@ -189,7 +189,7 @@ module _ (m : Meaning) (formed : Formed m) where
   apply_sim : (o : ℕ) (cs : List ℕ) (us : List Sample) → o < m.operators → all_held m.holds (m.operator o).operands cs ≡ true → us ≡ samples_of (m.operator o).operands cs
       → (k : ℕ → Attempt ℕ (List ℕ)) (l : Sample → Attempt Sample (List Sample)) (c : ℕ) → ((z : ℕ) → m.holds (m.operator o).result z ≡ true → SimA c (k z) (l (sample_of (m.operator o).result z)))
       → SimA c (and_then (C.apply o cs) k) (and_then (O.apply o us) l)
-  apply_sim o cs us i h e k l c f = rw (e, applied-samples m o cs i h) (go (m.assign o cs) refl (formed.legal o cs i h))
+  apply_sim o cs us i h e k l c f = rw (e, applied_samples m o cs i h) (go (m.assign o cs) refl (formed.legal o cs i h))
     where
       go : (t : Assigned) → m.assign o cs ≡ t → Legal m (m.operator o).result t
           → SimA c (and_then (attempted o cs t) k) (and_then (sampled o (samples_of (m.operator o).operands cs) (of_assigned (m.operator o).result t)) l)
@@ -296,7 +296,7 @@ module _ (m : Meaning) (formed : Formed m) where
       let ab : a.type.base ≡ w.base = ap (λ (z : ArrayType). z.base) (v.0 ∙ e) in (
         (refl, lift_in m.holds w.base p w.shape a.type.shape a.items c inb, ih.0),
         rw ih.1 (ap (λ (z : Array Sample). z ∷ map_arrays (cells_at env p c ws' os'))
-            (ap (λ (z : Array Sample). cell_at p w z c) (maps_at env o) ∙ ap (array_of w) (lift-map (sample_of a.type.base) p w.shape a.type.shape a.items c ∙ ap (λ (z : ℕ). map (sample_of z) (get_or (lift p w.shape a.type.shape a.items) c [])) ab))),
+            (ap (λ (z : Array Sample). cell_at p w z c) (maps_at env o) ∙ ap (array_of w) (lift_map (sample_of a.type.base) p w.shape a.type.shape a.items c ∙ ap (λ (z : ℕ). map (sample_of z) (get_or (lift p w.shape a.type.shape a.items) c [])) ab))),
       )
 
   collapse_sim : (b : ℕ) (x : Outcome ℕ) (y : Outcome Sample) (g : Cells ℕ) (k : Cells Sample) → SimO b x y → SimC b g k → SimC b (collapse x g) (collapse y k)
@@ -325,11 +325,11 @@ module _ (m : Meaning) (formed : Formed m) where
     cell_sim g l c (formula h) fits ts r f = sims h fits ts r f
     cell_sim g l c (fold o b zero d) fits ts r f =
         let u = unit_sim o b fits.0 fits.2 (fits.3 refl) in
-        (in_replicate m.holds b (size d) (C.unit o) u.0, rw u.1 (ap yields (sym (replicate-map (sample_of b) (size d) (C.unit o)))))
+        (in_replicate m.holds b (size d) (C.unit o) u.0, rw u.1 (ap yields (sym (replicate_map (sample_of b) (size d) (C.unit o)))))
     cell_sim g l c (fold o b (suc k) d) fits ts r f =
         let u = items_sim (cells m E (fold o b (suc k) d)) ts 0 (shaped b (suc k ∷ d)) r refl in
         let v = all_split m.holds b (suc k) (size d) (items_at ts 0) u.0 in
-        told_sim b g l c _ _ (rw (u.1, take-map (sample_of b) (size d) (items_at ts 0), drop-map (sample_of b) (size d) (items_at ts 0), split-map (sample_of b) k (size d) (drop (size d) (items_at ts 0))) (fold_from_sim o b fits.0 fits.1 fits.2 _ _ v.0 v.1))
+        told_sim b g l c _ _ (rw (u.1, take-map (sample_of b) (size d) (items_at ts 0), drop-map (sample_of b) (size d) (items_at ts 0), split_map (sample_of b) k (size d) (drop (size d) (items_at ts 0))) (fold_from_sim o b fits.0 fits.1 fits.2 _ _ v.0 v.1))
     cell_sim g l c (append b j k d) fits ts r f =
         let u = items_sim (cells m E (append b j k d)) ts 0 (shaped b (j ∷ d)) r refl in
         let v = items_sim (cells m E (append b j k d)) ts 1 (shaped b (k ∷ d)) r refl in
@@ -337,8 +337,8 @@ module _ (m : Meaning) (formed : Formed m) where
     cell_sim g l c (reversal b k d) fits ts r f =
         let u = items_sim (cells m E (reversal b k d)) ts 0 (shaped b (k ∷ d)) r refl in
         let L : List (List ℕ) = split k (size d) (items_at ts 0) in (
-          all-concat m.holds b (reverse L) (all-reverse m.holds b L (all_split m.holds b k (size d) (items_at ts 0) u.0)),
-          ap yields (rw u.1 (ap (λ (z : List (List Sample)). concat (reverse z)) (split-map (sample_of b) k (size d) (items_at ts 0)) ∙ ap concat (reverse-map (map (sample_of b)) L) ∙ concat-map (sample_of b) (reverse L))),
+          all_concat m.holds b (reverse L) (all_reverse m.holds b L (all_split m.holds b k (size d) (items_at ts 0) u.0)),
+          ap yields (rw u.1 (ap (λ (z : List (List Sample)). concat (reverse z)) (split_map (sample_of b) k (size d) (items_at ts 0)) ∙ ap concat (reverse_map (map (sample_of b)) L) ∙ concat_map (sample_of b) (reverse L))),
         )
 
     module _ (g : ℕ) (ps : List ArrayType) (args : List (Array ℕ)) (right : Right m.holds ps args) (fits : Fit ps args) where

@@ -10,7 +10,7 @@ use Rattle.remora.specs.Typing.{InSet, Alike, no_operand, operand, Operands, no_
 use Rattle.remora.specs.Evaluation.{split, concat, Array, array_of, no_array, items_at, Outcome, yields, faults, Cells, all, upto, Attempt, value, failed, and_then, Operations, cell_at, cells_at, firsts, combined, fold_from, folded, told, apply_cell, collapse, map_cells, joined, eval_line, onward, eval_lines}
 use Rattle.remora.specs.Forecasts.{entry_of}
 use Rattle.remora.specs.Numbers.{lines_of, known, eval, any_number, AllTyped}
-use Rattle.remora.proofs.Lifting.{size-append, lift-at, cell-within, length_part, length-split, last_or_snoc}
+use Rattle.remora.proofs.Lifting.{size_append, lift_at, cell_within, length_part, length_split, last_or_snoc}
 
 -- ---- what typing says of a typed line alone
 
@@ -20,9 +20,9 @@ pub data Lifts (types : List ArrayType) (p : Shape) : List ArrayType → List �
   one : {w : ArrayType} {ws : List ArrayType} {o : ℕ} {os : List ℕ} (f rest : Shape) → o < length types → get_or types o no_type ≡ shaped w.base (f ++ w.shape) → p ≡ f ++ rest
       → Lifts types p ws os → Lifts types p (w ∷ ws) (o ∷ os)
 
-pub operands-lift : (types : List ArrayType) (p : Shape) (ws : List ArrayType) (os : List ℕ) (fs : List Shape) → Operands types ws os fs → Bounds p fs → Lifts types p ws os
-operands-lift types p ws os fs no_operands b = none
-operands-lift types p ws os fs (and_operand {ws = ws'} {os = os'} {fs = fs'} f i e t) b = one f b.0.0 i e b.0.1 (operands-lift types p ws' os' fs' t b.1)
+pub operands_lift : (types : List ArrayType) (p : Shape) (ws : List ArrayType) (os : List ℕ) (fs : List Shape) → Operands types ws os fs → Bounds p fs → Lifts types p ws os
+operands_lift types p ws os fs no_operands b = none
+operands_lift types p ws os fs (and_operand {ws = ws'} {os = os'} {fs = fs'} f i e t) b = one f b.0.0 i e b.0.1 (operands_lift types p ws' os' fs' t b.1)
 
 -- the function is known, and a fold's operator takes two operands of its one base type and has a unit where it needs one
 abbrev pub FunctionFits : Meaning → ℕ → Function → Type 0
@@ -55,7 +55,7 @@ module _ (m : Meaning) (n : ℕ) (E : ℕ → Entry) (usable : ℕ → Bool) (ps
   types_sound types l r (t_array k e u c i s) = s_literal c i
   types_sound types l r (t_var k e i u s) = s_parameter i u
   types_sound types l r (t_frame cell k e u w c i a s) = s_frame cell w i a
-  types_sound types l r (t_app fs names e ok j u s) = s_application (names_fit m n usable l _ names) (operands-lift types _ _ _ fs ok j.upper) u
+  types_sound types l r (t_app fs names e ok j u s) = s_application (names_fit m n usable l _ names) (operands_lift types _ _ _ fs ok j.upper) u
 
   pub all_sound : (types : List ArrayType) (ls : List Line) (rs : List TypedLine) → TypesAll m n E usable ps types ls rs → SoundAll m n E ps types rs
   all_sound types ls rs no_lines = end
@@ -103,54 +103,54 @@ module _ {X : Type 0} where
   fit_last d e (s ∷ ss) [] k h = absurd h
   fit_last d e (s ∷ ss) (a ∷ ts) k h = fit_last a s ss ts h.1 h.2
 
-  then-length : {Y : Type 0} (n : ℕ) (t : Attempt X Y) (k : Y → Attempt X (List X)) → ((x : Y) → LengthA n (k x)) → LengthA n (and_then t k)
-  then-length n (value x) k h = h x
-  then-length n (failed e o ys) k h = tt
+  then_length : {Y : Type 0} (n : ℕ) (t : Attempt X Y) (k : Y → Attempt X (List X)) → ((x : Y) → LengthA n (k x)) → LengthA n (and_then t k)
+  then_length n (value x) k h = h x
+  then_length n (failed e o ys) k h = tt
 
   then_length₂ : (m n : ℕ) (t : Attempt X (List X)) (k : List X → Attempt X (List X)) → LengthA m t → ((xs : List X) → length xs ≡ m → LengthA n (k xs)) → LengthA n (and_then t k)
   then_length₂ m n (value x) k e h = h x e
   then_length₂ m n (failed c o ys) k e h = tt
 
-  combined-length : (O : Operations X) (o : ℕ) (n : ℕ) (xs ys : List X) → length xs ≡ n → length ys ≡ n → LengthA n (combined O o xs ys)
-  combined-length O o n [] ys h k = h
-  combined-length O o n (x ∷ xs) [] h k = k
-  combined-length O o n (x ∷ xs) (y ∷ ys) h k =
-      then-length n (O.apply o (x ∷ y ∷ [])) _ (λ z. then_length₂ (length xs) n (combined O o xs ys) _ (combined-length O o (length xs) xs ys refl (omega arith)) (λ zs e. omega arith))
+  combined_length : (O : Operations X) (o : ℕ) (n : ℕ) (xs ys : List X) → length xs ≡ n → length ys ≡ n → LengthA n (combined O o xs ys)
+  combined_length O o n [] ys h k = h
+  combined_length O o n (x ∷ xs) [] h k = k
+  combined_length O o n (x ∷ xs) (y ∷ ys) h k =
+      then_length n (O.apply o (x ∷ y ∷ [])) _ (λ z. then_length₂ (length xs) n (combined O o xs ys) _ (combined_length O o (length xs) xs ys refl (omega arith)) (λ zs e. omega arith))
 
   abbrev AllLong : ℕ → List (List X) → Type 0
   AllLong n [] = Unit {0}
   AllLong n (x ∷ xs) = (length x ≡ n) × AllLong n xs
 
-  split-long : (m k : ℕ) (xs : List X) → length xs ≡ m * k → AllLong k (split m k xs)
-  split-long zero k xs h = tt
-  split-long (suc m) k xs h =
+  split_long : (m k : ℕ) (xs : List X) → length xs ≡ m * k → AllLong k (split m k xs)
+  split_long zero k xs h = tt
+  split_long (suc m) k xs h =
       let e = suc-mul m k in
-      (length_part 0 k xs (omega arith), split-long m k (drop k xs) (simp length-drop (omega arith)))
+      (length_part 0 k xs (omega arith), split_long m k (drop k xs) (simp length-drop (omega arith)))
 
   fold_from_length : (O : Operations X) (o n : ℕ) (acc : List X) (xs : List (List X)) → length acc ≡ n → AllLong n xs → LengthA n (fold_from O o acc xs)
   fold_from_length O o n acc [] h k = h
-  fold_from_length O o n acc (x ∷ xs) h k = then_length₂ n n (combined O o acc x) _ (combined-length O o n acc x h k.0) (λ zs e. fold_from_length O o n zs xs e k.1)
+  fold_from_length O o n acc (x ∷ xs) h k = then_length₂ n n (combined O o acc x) _ (combined_length O o n acc x h k.0) (λ zs e. fold_from_length O o n zs xs e k.1)
 
-  folded-length : (O : Operations X) (o n : ℕ) (xs : List (List X)) → AllLong n xs → LengthA n (folded O o n xs)
-  folded-length O o n [] k = length-replicate n (O.unit o)
-  folded-length O o n (x ∷ xs) k = fold_from_length O o n x xs k.0 k.1
+  folded_length : (O : Operations X) (o n : ℕ) (xs : List (List X)) → AllLong n xs → LengthA n (folded O o n xs)
+  folded_length O o n [] k = length-replicate n (O.unit o)
+  folded_length O o n (x ∷ xs) k = fold_from_length O o n x xs k.0 k.1
 
-  concat-append : (xs ys : List (List X)) → concat (xs ++ ys) ≡ concat xs ++ concat ys
-  concat-append [] ys = refl
-  concat-append (x ∷ xs) ys = rw (concat-append xs ys) (sym (append_assoc x (concat xs) (concat ys)))
+  concat_append : (xs ys : List (List X)) → concat (xs ++ ys) ≡ concat xs ++ concat ys
+  concat_append [] ys = refl
+  concat_append (x ∷ xs) ys = rw (concat_append xs ys) (sym (append_assoc x (concat xs) (concat ys)))
 
-  reverse-cons : (x : List X) (xs : List (List X)) → reverse (x ∷ xs) ≡ reverse xs ++ x ∷ []
-  reverse-cons x xs = reverse-append (x ∷ []) xs
+  reverse_cons : (x : List X) (xs : List (List X)) → reverse (x ∷ xs) ≡ reverse xs ++ x ∷ []
+  reverse_cons x xs = reverse-append (x ∷ []) xs
 
   reversed_length : (n : ℕ) (xs : List (List X)) → AllLong n xs → length (concat (reverse xs)) ≡ length xs * n
   reversed_length n [] k = sym (zero-mul n)
   reversed_length n (x ∷ xs) k =
-      let e : length (concat (reverse xs ++ x ∷ [])) ≡ length xs * n + n = rw (concat-append (reverse xs) (x ∷ []), length-append, reversed_length n xs k.1, append-nil, k.0) in
-      rw (reverse-cons x xs, e) (sym (suc-mul (length xs) n))
+      let e : length (concat (reverse xs ++ x ∷ [])) ≡ length xs * n + n = rw (concat_append (reverse xs) (x ∷ []), length-append, reversed_length n xs k.1, append-nil, k.0) in
+      rw (reverse_cons x xs, e) (sym (suc-mul (length xs) n))
 
-  told-length : (g l c n : ℕ) (t : Attempt X (List X)) → LengthA n t → LengthO n (told g l c t)
-  told-length g l c n (value xs) h = h
-  told-length g l c n (failed e o ys) h = tt
+  told_length : (g l c n : ℕ) (t : Attempt X (List X)) → LengthA n t → LengthO n (told g l c t)
+  told_length g l c n (value xs) h = h
+  told_length g l c n (failed e o ys) h = tt
 
   -- cells
   cell_at_length : (p : Shape) (w : ArrayType) (a : Array X) (s : ArrayType) (f r : Shape) (c : ℕ) → a.type ≡ s → length a.items ≡ size s.shape → s ≡ shaped w.base (f ++ w.shape) → p ≡ f ++ r → c < size p
@@ -158,8 +158,8 @@ module _ {X : Type 0} where
   cell_at_length p w a s f r c e l q u h =
       let h' : c < size (f ++ r) = rw u at h in
       let l' : length a.items ≡ size (f ++ w.shape) = l ∙ ap (λ (z : ArrayType). size z.shape) q in
-      let b : (c / size r) * size w.shape + size w.shape ≤ size (f ++ w.shape) = cell-within f r w.shape c h' in
-      rw (u, e, q) (ap length (lift-at f r w.shape a.items c h') ∙ length_part ((c / size r) * size w.shape) (size w.shape) a.items (omega arith))
+      let b : (c / size r) * size w.shape + size w.shape ≤ size (f ++ w.shape) = cell_within f r w.shape c h' in
+      rw (u, e, q) (ap length (lift_at f r w.shape a.items c h') ∙ length_part ((c / size r) * size w.shape) (size w.shape) a.items (omega arith))
 
   pub cells_at_fit : (types : List ArrayType) (env : List (Array X)) (p : Shape) (c : ℕ) (ws : List ArrayType) (os : List ℕ)
       → Fit types env → c < size p → Lifts types p ws os → Fit ws (cells_at env p c ws os)
@@ -175,20 +175,20 @@ module _ {X : Type 0} where
       let w = suc-mul (length os') (size t.shape) in
       length-append (items_at env o) (joined env os') ∙ omega arith
 
-  collapse-length : (m n : ℕ) (x : Outcome X) (g : Cells X) → LengthO m x → LengthC n g → LengthC (m + n) (collapse x g)
-  collapse-length m n (yields xs) (all ys) h k = rw length-append (omega arith)
-  collapse-length m n (yields xs) (upto ys x) h k = rw length-append (omega arith)
-  collapse-length m n (faults x) g h k = omega arith
+  collapse_length : (m n : ℕ) (x : Outcome X) (g : Cells X) → LengthO m x → LengthC n g → LengthC (m + n) (collapse x g)
+  collapse_length m n (yields xs) (all ys) h k = rw length-append (omega arith)
+  collapse_length m n (yields xs) (upto ys x) h k = rw length-append (omega arith)
+  collapse_length m n (faults x) g h k = omega arith
 
   pub map_cells_length : (f : ℕ → Outcome X) (k N c n : ℕ) → ((i : ℕ) → i < N → LengthO k (f i)) → c + n ≤ N → LengthC (n * k) (map_cells f c n)
   map_cells_length f k N c zero h l = sym (zero-mul k)
   map_cells_length f k N c (suc n) h l =
       let e : k + n * k ≡ suc n * k = omega (arith, suc-mul n k) in
-      rw (← e) (collapse-length k (n * k) (f c) (map_cells f (suc c) n) (h c (omega arith)) (map_cells_length f k N (suc c) n h (omega arith)))
+      rw (← e) (collapse_length k (n * k) (f c) (map_cells f (suc c) n) (h c (omega arith)) (map_cells_length f k N (suc c) n h (omega arith)))
 
-  onward-length : (m n : ℕ) (g : Cells X) (k : List X → Outcome X) → LengthC m g → ((xs : List X) → length xs ≡ m → LengthO n (k xs)) → LengthO n (onward g k)
-  onward-length m n (all xs) k h f = f xs h
-  onward-length m n (upto xs x) k h f = tt
+  onward_length : (m n : ℕ) (g : Cells X) (k : List X → Outcome X) → LengthC m g → ((xs : List X) → length xs ≡ m → LengthO n (k xs)) → LengthO n (onward g k)
+  onward_length m n (all xs) k h f = f xs h
+  onward_length m n (upto xs x) k h f = tt
 
 abbrev pub result_from : List ArrayType → List TypedLine → ArrayType
 result_from ss [] = last_or no_type ss
@@ -204,25 +204,25 @@ Keeps {X} e v = (ts : List (Array X)) → Fit e.parameters ts → LengthO (size 
 
 module _ {X : Type 0} (m : Meaning) (O : Operations X) (n : ℕ) (E : ℕ → Entry) (V : ℕ → List (Array X) → Outcome X) (keeps : (h : ℕ) → h < n → Keeps (E h) (V h)) where
   apply_cell_length : (g l c : ℕ) (f : Function) (ts : List (Array X)) → FunctionFits m n f → Fit (cells m E f) ts → LengthO (size (result_cell m E f).shape) (apply_cell O V g l c f ts)
-  apply_cell_length g l c (primitive o) ts fits h = told-length g l c 1 _ (then-length 1 (O.apply o (firsts ts)) _ (λ z. refl))
+  apply_cell_length g l c (primitive o) ts fits h = told_length g l c 1 _ (then_length 1 (O.apply o (firsts ts)) _ (λ z. refl))
   apply_cell_length g l c (formula k) ts fits h = keeps k fits ts h
   apply_cell_length g l c (fold o b n d) ts fits h =
-      told-length g l c (size d) _ (folded-length O o (size d) (split n (size d) (items_at ts 0)) (split-long n (size d) (items_at ts 0) (fit_at (cells m E (fold o b n d)) ts h 0).1))
+      told_length g l c (size d) _ (folded_length O o (size d) (split n (size d) (items_at ts 0)) (split_long n (size d) (items_at ts 0) (fit_at (cells m E (fold o b n d)) ts h 0).1))
   apply_cell_length g l c (append b j n d) ts fits h =
       let u = (fit_at (cells m E (append b j n d)) ts h 0).1 in
       let v = (fit_at (cells m E (append b j n d)) ts h 1).1 in
       length-append (items_at ts 0) (items_at ts 1) ∙ rw (u, v) (sym (add-mul j n (size d)))
   apply_cell_length g l c (reversal b n d) ts fits h =
-      reversed_length (size d) (split n (size d) (items_at ts 0)) (split-long n (size d) (items_at ts 0) (fit_at (cells m E (reversal b n d)) ts h 0).1) ∙ rw length-split
+      reversed_length (size d) (split n (size d) (items_at ts 0)) (split_long n (size d) (items_at ts 0) (fit_at (cells m E (reversal b n d)) ts h 0).1) ∙ rw length_split
 
   module _ (g : ℕ) (ps : List ArrayType) (args : List (Array X)) (fits : Fit ps args) where
     pub eval_line_length : (types : List ArrayType) (env : List (Array X)) (r : TypedLine) → Fit types env → Sound m n E ps types r → LengthC (size (type_of r).shape) (eval_line m O E V g args env r)
     unfolding eval_line
     eval_line_length types env (literal t xs) h (s_literal e i) = length-map xs (O.item t.base) ∙ e
     eval_line_length types env (parameter k t) h (s_parameter l e) = rw (← e) (fit_at ps args fits k).1
-    eval_line_length types env (frame os p t) h (s_frame cell e l a) = joined_length types env (shaped t.base cell) os h a ∙ rw (e, size-append, l)
+    eval_line_length types env (frame os p t) h (s_frame cell e l a) = joined_length types env (shaped t.base cell) os h a ∙ rw (e, size_append, l)
     eval_line_length types env (application f os p t) h (s_application fn ok e) =
-        rw (e, size-append) (map_cells_length _ (size (result_cell m E f).shape) (size p) 0 (size p)
+        rw (e, size_append) (map_cells_length _ (size (result_cell m E f).shape) (size p) 0 (size p)
         (λ i l. apply_cell_length g (length env) i f _ fn (cells_at_fit types env p i (cells m E f) os h l ok)) (omega arith))
 
     eval_lines_length : (types : List ArrayType) (env : List (Array X)) (rs : List TypedLine) → Fit types env → SoundAll m n E ps types rs
@@ -230,7 +230,7 @@ module _ {X : Type 0} (m : Meaning) (O : Operations X) (n : ℕ) (E : ℕ → En
     unfolding eval_lines
     eval_lines_length types env [] h end = fit_last no_array no_type types env refl h
     eval_lines_length types env (r ∷ rs) h (then t u) =
-        onward-length (size (type_of r).shape) _ (eval_line m O E V g args env r) _ (eval_line_length types env r h t)
+        onward_length (size (type_of r).shape) _ (eval_line m O E V g args env r) _ (eval_line_length types env r h t)
         (λ xs e. eval_lines_length (types ++ type_of r ∷ []) (env ++ array_of (type_of r) xs ∷ []) rs (fit_snoc types env (type_of r) xs h e) u)
 
 -- ---- formulas by number
@@ -255,13 +255,13 @@ pub eval_below : {X : Type 0} (m : Meaning) (O : Operations X) (f : Formula) (fs
 unfolding eval
 eval_below m O f fs g ts h = rw (ne_eqb g (length fs) (λ e. omega arith))
 
-pub known-later : (m : Meaning) (fs newer : List Formula) (g : ℕ) → g < length fs → known m (newer ++ fs) g ≡ known m fs g
-known-later m fs [] g l = refl
-known-later m fs (f ∷ newer) g l = known_below m f (newer ++ fs) g (simp length-append (omega arith)) ∙ known-later m fs newer g l
+pub known_later : (m : Meaning) (fs newer : List Formula) (g : ℕ) → g < length fs → known m (newer ++ fs) g ≡ known m fs g
+known_later m fs [] g l = refl
+known_later m fs (f ∷ newer) g l = known_below m f (newer ++ fs) g (simp length-append (omega arith)) ∙ known_later m fs newer g l
 
-pub eval-later : {X : Type 0} (m : Meaning) (O : Operations X) (fs newer : List Formula) (g : ℕ) (ts : List (Array X)) → g < length fs → eval m O (newer ++ fs) g ts ≡ eval m O fs g ts
-eval-later m O fs [] g ts l = refl
-eval-later m O fs (f ∷ newer) g ts l = eval_below m O f (newer ++ fs) g ts (simp length-append (omega arith)) ∙ eval-later m O fs newer g ts l
+pub eval_later : {X : Type 0} (m : Meaning) (O : Operations X) (fs newer : List Formula) (g : ℕ) (ts : List (Array X)) → g < length fs → eval m O (newer ++ fs) g ts ≡ eval m O fs g ts
+eval_later m O fs [] g ts l = refl
+eval_later m O fs (f ∷ newer) g ts l = eval_below m O f (newer ++ fs) g ts (simp length-append (omega arith)) ∙ eval_later m O fs newer g ts l
 
 -- each formula's typed lines are sound
 abbrev pub Sounds : Meaning → List Formula → Type 0

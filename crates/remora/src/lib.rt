@@ -1,4 +1,6 @@
 // The theory of formulas: its limits, and for each theorem a function whose contract is that theorem.
+#![tactic(auto)]
+
 ghost use Rattle.std.specs.Prelude.{◌≡◌};
 ghost use Rattle.remora.specs.Forecasts.{limited};
 ghost use Rattle.remora.specs.Histories.{EveryHistoryHolds, EveryRunBounded};

@@ -66,8 +66,8 @@ blank_plain : Plain blank
 blank_plain c e = grind (arith, nat_tests)
 
 -- A text with no blank is one piece.
-pub words-none : (w : List ℕ) → FindsBy blank w None → words_of w ≡ words_in (w ∷ [])
-words-none w f = ap words_in (found blank blank_plain w w [] false None f (refl, refl))
+pub words_none : (w : List ℕ) → FindsBy blank w None → words_of w ≡ words_in (w ∷ [])
+words_none w f = ap words_in (found blank blank_plain w w [] false None f (refl, refl))
 
 -- The first blank ends the first piece.
 pub words_cut : (w x rest : List ℕ) (i j : ℕ) → FindsBy blank w (Some (i, j)) → x ≡ take i w → rest ≡ drop j w → words_of w ≡ words_in (x ∷ pieces blank rest)
@@ -78,12 +78,12 @@ pub cut_falls : (t : ℕ → Bool) (w rest : List ℕ) (i j : ℕ) → FindsBy t
 cut_falls t w rest i j f e = omega (arith, f.1.2.ends, (len_utf8_bounds f.1.0).0)
 
 -- The words among an empty piece and others are those of the others.
-pub words-empty : (p : List ℕ) (ps : List (List ℕ)) → eqb (length p) 0 ≡ true → words_in (p ∷ ps) ≡ words_in ps
-words-empty p ps e = ap (λ v. cond (not v) (p ∷ words_in ps) (words_in ps)) e
+pub words_empty : (p : List ℕ) (ps : List (List ℕ)) → eqb (length p) 0 ≡ true → words_in (p ∷ ps) ≡ words_in ps
+words_empty p ps e = ap (λ v. cond (not v) (p ∷ words_in ps) (words_in ps)) e
 
 -- A piece that is not empty is a word.
-pub words-filled : (p : List ℕ) (ps : List (List ℕ)) → eqb (length p) 0 ≡ false → words_in (p ∷ ps) ≡ p ∷ words_in ps
-words-filled p ps e = ap (λ v. cond (not v) (p ∷ words_in ps) (words_in ps)) e
+pub words_filled : (p : List ℕ) (ps : List (List ℕ)) → eqb (length p) 0 ≡ false → words_in (p ∷ ps) ≡ p ∷ words_in ps
+words_filled p ps e = ap (λ v. cond (not v) (p ∷ words_in ps) (words_in ps)) e
 
 -- What finds a comma finds what parts numbers.
 finds_comma : (c : ℕ) → c ≡ 44 → (w : List ℕ) (o : Option (ℕ × ℕ)) → FindsChar c w o → FindsBy comma w o

@@ -14,28 +14,28 @@ pub then_wrong : {A B : Type 0} (o : Said A) (next : A → Said B) (f : Fault) �
 then_wrong o next f e = ap (λ p. and_then p next) e
 
 -- What follows from a thing that is said.
-pub then-said : {A B : Type 0} (o : Said A) (next : A → Said B) (a : A) → o ≡ Ok a → and_then o next ≡ next a
-then-said o next a e = ap (λ p. and_then p next) e
+pub then_said : {A B : Type 0} (o : Said A) (next : A → Said B) (a : A) → o ≡ Ok a → and_then o next ≡ next a
+then_said o next a e = ap (λ p. and_then p next) e
 
 -- A thing that is not there is a fault.
-pub fault-none : {A : Type 0} (o : Option A) (f : Fault) → o ≡ None → or_fault o f ≡ Err f
-fault-none o f e = ap (λ p. or_fault p f) e
+pub fault_none : {A : Type 0} (o : Option A) (f : Fault) → o ≡ None → or_fault o f ≡ Err f
+fault_none o f e = ap (λ p. or_fault p f) e
 
 -- A thing that is there is said.
-pub fault-some : {A : Type 0} (o : Option A) (f : Fault) (a : A) → o ≡ Some a → or_fault o f ≡ Ok a
-fault-some o f a e = ap (λ p. or_fault p f) e
+pub fault_some : {A : Type 0} (o : Option A) (f : Fault) (a : A) → o ≡ Some a → or_fault o f ≡ Ok a
+fault_some o f a e = ap (λ p. or_fault p f) e
 
 -- A part that is blamed is blamed of the whole.
-pub fails-first : {A B : Type 0} (o : Said A) (next : A → Said B) (e : ReadError) → Blames o e → Blames (and_then o next) e
-fails-first o next e = blames_like o (and_then o next) e (then_wrong o next)
+pub fails_first : {A B : Type 0} (o : Said A) (next : A → Said B) (e : ReadError) → Blames o e → Blames (and_then o next) e
+fails_first o next e = blames_like o (and_then o next) e (then_wrong o next)
 
 -- So is what follows from a part that is said.
 pub fails_next : {A B : Type 0} (o : Said A) (next : A → Said B) (a : A) (e : ReadError) → o ≡ Ok a → Blames (next a) e → Blames (and_then o next) e
-fails_next o next a e h = blames_like (next a) (and_then o next) e (λ f k. then-said o next a h ∙ k)
+fails_next o next a e h = blames_like (next a) (and_then o next) e (λ f k. then_said o next a h ∙ k)
 
 -- The whole is read where what follows from the first part is.
 pub reads_next : {A M X : Type 0} (o : Said A) (next : A → Said M) (a : A) (view : X → M) (r : Result X ReadError) → o ≡ Ok a → Reads (next a) view r → Reads (and_then o next) view r
-reads_next o next a view r h k = subst (λ s. Reads s view r) (sym (then-said o next a h)) k
+reads_next o next a view r h k = subst (λ s. Reads s view r) (sym (then_said o next a h)) k
 
 -- The exit of a `?` tells the error of the part.
 pub reads_break : {M X : Type 0} (said : Said M) (view : X → M) (r : Result X ReadError) (e : ReadError) → IsErrAnd r (λ y. y ≡ e) → Blames said e → Reads said view r

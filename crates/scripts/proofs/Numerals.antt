@@ -13,8 +13,8 @@ own = numerals_by_fold _ (search rules) read_on (search rules)
 
 module _ {E : Type 0} (bs : List ℕ) (plain : get_or bs 0 0 ≡ 43 → ⊥) (r : Result ℕ E) (h : ParsesUnsigned 64 10 bs r) where
   -- What was parsed is the number said.
-  pub number-said : (n : ℕ) → r ≡ Ok n → Some n ≡ number bs
-  number-said n e =
+  pub number_said_lem : (n : ℕ) → r ≡ Ok n → Some n ≡ number bs
+  number_said_lem n e =
       let p = OkIff-at_ok r _ _ n (parse_plain own 64 bs r h plain) e in
       let yes : is_number bs ≡ true = and_from (all_ascii_digits bs) _ p.0.0 (and_from (ltb 0 (length bs)) _ (lt-ltb 0 (length bs) p.0.1) (lt-ltb (read_on 0 bs) (2 ^ 64) p.0.2)) in
       ap Some p.1 ∙ sym (ap (λ v. cond v (Some (read_on 0 bs)) None) yes)
@@ -37,14 +37,14 @@ closed_text (b ∷ []) = refl
 closed_text (b ∷ c ∷ t) = ap (on_front b) (closed_text (c ∷ t))
 
 -- What is closed ends with `]`.
-closed-end : (s t : List ℕ) → closed s ≡ Some t → s ≡ t ++ (93 ∷ [])
-closed-end [] t e = let z : ◌≡◌ {A = ℕ} 0 1 = cc in absurd (omega arith)
-closed-end (b ∷ []) t e = go (eqb b 93) refl e
+closed_end : (s t : List ℕ) → closed s ≡ Some t → s ≡ t ++ (93 ∷ [])
+closed_end [] t e = let z : ◌≡◌ {A = ℕ} 0 1 = cc in absurd (omega arith)
+closed_end (b ∷ []) t e = go (eqb b 93) refl e
   where
     go : (v : Bool) → eqb b 93 ≡ v → cond v (Some []) None ≡ Some t → b ∷ [] ≡ t ++ (93 ∷ [])
     go true v h = let same : [] ≡ t = cc in ap (λ c. c ∷ []) (eqb-true b 93 v) ∙ ap (λ l. l ++ (93 ∷ [])) same
     go false v h = let z : ◌≡◌ {A = ℕ} 0 1 = cc in absurd (omega arith)
-closed-end (b ∷ c ∷ s) t e = go (closed (c ∷ s)) (closed-end (c ∷ s)) refl e
+closed_end (b ∷ c ∷ s) t e = go (closed (c ∷ s)) (closed_end (c ∷ s)) refl e
   where
     go : (o : Option (List ℕ)) → ((u : List ℕ) → closed (c ∷ s) ≡ Some u → c ∷ s ≡ u ++ (93 ∷ [])) → closed (c ∷ s) ≡ o → on_front b o ≡ Some t → b ∷ c ∷ s ≡ t ++ (93 ∷ [])
     go None ends v h = let z : ◌≡◌ {A = ℕ} 0 1 = cc in absurd (omega arith)
@@ -56,13 +56,13 @@ closed_none s h = go (closed s) refl
   where
     go : (o : Option (List ℕ)) → closed s ≡ o → o ≡ None
     go None e = refl
-    go (Some t) e = absurd (h t (closed-end s t e))
+    go (Some t) e = absurd (h t (closed_end s t e))
 
 -- A text that does not begin with this byte has nothing behind it.
-pub behind-none : (c : ℕ) (w : List ℕ) → ((rest : List ℕ) → w ≡ c ∷ rest → ⊥) → behind c w ≡ None
-behind-none c [] h = refl
-behind-none c (b ∷ bs) h = ap (λ v. cond v (Some bs) None) (ne_eqb b c (λ e. h bs (ap (λ d. d ∷ bs) e)))
+pub behind_none : (c : ℕ) (w : List ℕ) → ((rest : List ℕ) → w ≡ c ∷ rest → ⊥) → behind c w ≡ None
+behind_none c [] h = refl
+behind_none c (b ∷ bs) h = ap (λ v. cond v (Some bs) None) (ne_eqb b c (λ e. h bs (ap (λ d. d ∷ bs) e)))
 
 -- What is behind a byte that a text begins with.
-pub behind-some : (c : ℕ) (w rest : List ℕ) → w ≡ c ∷ rest → behind c w ≡ Some rest
-behind-some c w rest e = ap (behind c) e ∙ ap (λ v. cond v (Some rest) None) (eq-eqb c c refl)
+pub behind_some : (c : ℕ) (w rest : List ℕ) → w ≡ c ∷ rest → behind c w ≡ Some rest
+behind_some c w rest e = ap (behind c) e ∙ ap (λ v. cond v (Some rest) None) (eq-eqb c c refl)

@@ -48,6 +48,6 @@ is_in_none [] w h = refl
 is_in_none (x ∷ xs) w h = ap (λ v. cond v true (is_in xs w)) (differs w x h.0) ∙ is_in_none xs w h.1
 
 -- A word that is none of the names of a table has nothing there.
-pub lookup-none : {X : Type 0} (xs : List (List ℕ × X)) (w : List ℕ) → All (λ x. w ≡ x.0 → ⊥) xs → lookup xs w ≡ None
-lookup-none [] w h = refl
-lookup-none (x ∷ xs) w h = ap (λ v. cond v (Some x.1) (lookup xs w)) (differs w x.0 h.0) ∙ lookup-none xs w h.1
+pub lookup_none : {X : Type 0} (xs : List (List ℕ × X)) (w : List ℕ) → All (λ x. w ≡ x.0 → ⊥) xs → lookup xs w ≡ None
+lookup_none [] w h = refl
+lookup_none (x ∷ xs) w h = ap (λ v. cond v (Some x.1) (lookup xs w)) (differs w x.0 h.0) ∙ lookup_none xs w h.1

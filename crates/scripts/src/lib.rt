@@ -1,4 +1,6 @@
 // Session scripts: reading one line of a script into a command.
+#![tactic(auto)]
+
 mod commands;
 mod errors;
 mod fields;

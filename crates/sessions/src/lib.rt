@@ -1,4 +1,6 @@
 // Sessions: the calls that commands name, made on a collection of formulas on counts, and their answers in words.
+#![tactic(auto)]
+
 mod answers;
 mod session;
 mod troubles;

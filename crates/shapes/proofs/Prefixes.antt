@@ -18,10 +18,10 @@ begins_no (x ∷ f) (y ∷ s) zero l m apart = and_left (eqb x y) (begins f s) (
 begins_no (x ∷ f) (y ∷ s) (suc k) l m apart = and_right (eqb x y) (begins f s) (begins_no f s k (omega arith) (omega arith) apart)
 
 -- It does not if it is longer.
-pub begins-long : (f s : List ℕ) → length s < length f → begins f s ≡ false
-begins-long [] s h = absurd (omega arith)
-begins-long (x ∷ f) [] h = refl
-begins-long (x ∷ f) (y ∷ s) h = and_right (eqb x y) (begins f s) (begins-long f s (omega arith))
+pub begins_long : (f s : List ℕ) → length s < length f → begins f s ≡ false
+begins_long [] s h = absurd (omega arith)
+begins_long (x ∷ f) [] h = refl
+begins_long (x ∷ f) (y ∷ s) h = and_right (eqb x y) (begins f s) (begins_long f s (omega arith))
 
 -- Shapes of equal length are the same if one begins the other.
 pub same_level : (a b : List ℕ) → length a ≡ length b → same a b ≡ begins a b

@@ -8,11 +8,11 @@ use Rattle.remora.specs.Shapes.{size, extent, allowed}
 -- A product of numbers that are each found from an axis.
 module _ (product : List ℕ → ℕ) (factor : ℕ → ℕ) (none : product [] ≡ 1) (one : (x : ℕ) (xs : List ℕ) → product (x ∷ xs) ≡ factor x * product xs) where
   -- The product over two lists is that of their products.
-  pub product-append : (xs ys : List ℕ) → product (xs ++ ys) ≡ product xs * product ys
-  product-append [] ys = sym (one-mul (product ys)) ∙ ap (λ (n : ℕ). n * product ys) (sym none)
-  product-append (x ∷ xs) ys =
+  pub product_append : (xs ys : List ℕ) → product (xs ++ ys) ≡ product xs * product ys
+  product_append [] ys = sym (one-mul (product ys)) ∙ ap (λ (n : ℕ). n * product ys) (sym none)
+  product_append (x ∷ xs) ys =
       one x (xs ++ ys)
-      ∙ ap (λ (n : ℕ). factor x * n) (product-append xs ys)
+      ∙ ap (λ (n : ℕ). factor x * n) (product_append xs ys)
       ∙ sym (mul_assoc (factor x) (product xs) (product ys))
       ∙ ap (λ (n : ℕ). n * product ys) (sym (one x xs))
 
@@ -23,7 +23,7 @@ module _ (product : List ℕ → ℕ) (factor : ℕ → ℕ) (none : product [] 
       let single : product (x ∷ []) ≡ factor x = one x [] ∙ ap (λ (n : ℕ). factor x * n) none ∙ mul-one (factor x) in
       ap (λ (n : ℕ). n * q) ep
       ∙ ap (λ (n : ℕ). product (take i xs) * n) (eq ∙ sym single)
-      ∙ sym (ap product (take_more xs i 0 h) ∙ product-append (take i xs) (x ∷ []))
+      ∙ sym (ap product (take_more xs i 0 h) ∙ product_append (take i xs) (x ∷ []))
 
 -- The size after one axis more.
 pub size_next : (xs : List ℕ) (i p q : ℕ) → i < length xs → p ≡ size (take i xs) → q ≡ get_or xs i 0 → p * q ≡ size (take (i + 1) xs)
@@ -34,28 +34,28 @@ pub extent_next : (xs : List ℕ) (i p q : ℕ) → i < length xs → p ≡ exte
 extent_next = product_next extent (max 1) refl (λ x xs. refl)
 
 -- An extent is at least 1.
-extent-some : (xs : List ℕ) → 1 ≤ extent xs
-extent-some [] = omega arith
-extent-some (x ∷ xs) = let one : 1 ≤ max 1 x = omega arith in one-le-mul one (extent-some xs)
+extent_some : (xs : List ℕ) → 1 ≤ extent xs
+extent_some [] = omega arith
+extent_some (x ∷ xs) = let one : 1 ≤ max 1 x = omega arith in one-le-mul one (extent_some xs)
 
 -- The extent of the first axes is at most that of all.
-pub extent-front : (xs : List ℕ) (i : ℕ) → extent (take i xs) ≤ extent xs
-extent-front xs i =
+pub extent_front : (xs : List ℕ) (i : ℕ) → extent (take i xs) ≤ extent xs
+extent_front xs i =
     let whole : extent xs ≡ extent (take i xs) * extent (drop i xs) =
-    ap extent (sym (take-append-drop i xs)) ∙ product-append extent (max 1) refl (λ x xs. refl) (take i xs) (drop i xs) in
-    let more : extent (take i xs) * 1 ≤ extent (take i xs) * extent (drop i xs) = mul-le-mul_left (extent (take i xs)) (extent-some (drop i xs)) in
+    ap extent (sym (take-append-drop i xs)) ∙ product_append extent (max 1) refl (λ x xs. refl) (take i xs) (drop i xs) in
+    let more : extent (take i xs) * 1 ≤ extent (take i xs) * extent (drop i xs) = mul-le-mul_left (extent (take i xs)) (extent_some (drop i xs)) in
     omega (arith, whole, more, mul-one (extent (take i xs)))
 
 -- A size is at most the extent.
-size-extent : (xs : List ℕ) → size xs ≤ extent xs
-size-extent [] = omega arith
-size-extent (x ∷ xs) = let one : x ≤ max 1 x = omega arith in mul-le-mul one (size-extent xs)
+size_extent : (xs : List ℕ) → size xs ≤ extent xs
+size_extent [] = omega arith
+size_extent (x ∷ xs) = let one : x ≤ max 1 x = omega arith in mul-le-mul one (size_extent xs)
 
 -- The size of an allowed shape is at most 65,536.
-pub size-allowed : (xs : List ℕ) → allowed xs ≡ true → size xs ≤ 65536
-size-allowed xs h =
+pub size_allowed : (xs : List ℕ) → allowed xs ≡ true → size xs ≤ 65536
+size_allowed xs h =
     let few : extent xs ≤ 65536 = leb-true (extent xs) 65536 (and_parts (leb (length xs) 4) (leb (extent xs) 65536) h).1 in
-    omega (arith, few, size-extent xs)
+    omega (arith, few, size_extent xs)
 
 -- A product of numbers below 2^32 is bounded by a power of it.
 pub power_next : (i p q : ℕ) → p ≤ 2 ^ (32 * i) → q < 2 ^ 32 → p * q ≤ 2 ^ (32 * (i + 1))

@@ -22,8 +22,8 @@ made_of xs ys n e p =
     λ j. record { axes = q j; rank = e j }
 
 -- Below the rank an axis stands in its place of the array.
-pub dims-read : (s : Shape) (k : ℕ) → k < length (dims s) → get_or (dims s) k 0 ≡ get_or s.axes k 0
-dims-read s k h =
+pub dims_read : (s : Shape) (k : ℕ) → k < length (dims s) → get_or (dims s) k 0 ≡ get_or s.axes k 0
+dims_read s k h =
     let below : k < s.rank = omega (arith, length-take s.rank s.axes) in
     get_or-take s.rank s.axes k 0 below
 

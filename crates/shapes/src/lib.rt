@@ -1,4 +1,6 @@
 // Shapes of arrays as small values: axes, frames before a cell, the joining of frames; types of arrays.
+#![tactic(auto)]
+
 ghost use Rattle.std.specs.Prelude.{◌≡◌, ◌+◌, ◌<◌, ◌≤◌, min, true, ◌&&◌, [], ◌++◌, length, take, drop, ◌==◌, nat_le, nat_lt, slice_index};
 ghost use Rattle.remora.specs.Shapes.{size, allowed, same, begins, ends, comparable, longer};
 ghost use Rattle.shapes.specs.Axes.{dims, shape_of, array_type, Made, framed, joined, followed};

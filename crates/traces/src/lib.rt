@@ -1,4 +1,6 @@
 // Traces of a seismic channel: reading the counts of one from text, and its summary by the algebra of counts.
+#![tactic(auto)]
+
 mod folding;
 mod printing;
 mod reading;

@@ -10,21 +10,21 @@ use Rattle.remora.specs.Questions.{type_at, each_fits, cells_fit}
 use Rattle.remora.proofs.Prefixes.{same_equal}
 use Rattle.shapes.specs.declared.ArrayType.{ArrayType}
 use Rattle.shapes.specs.Axes.{array_type, dims}
-use Rattle.shapes.proofs.Products.{product-append, size-allowed}
+use Rattle.shapes.proofs.Products.{product_append, size_allowed}
 use Rattle.typing.specs.declared.found.Typed.{Typed}
 use Rattle.typing.specs.Typings.{types_of}
 use Rattle.typing.specs.Plans.{AllAllowed, small, LiftedAt, Lifted, planned_operands}
-use Rattle.typing.proofs.Asking.{absent, type-within}
+use Rattle.typing.proofs.Asking.{absent, type_within}
 
 -- one operand more, of type t, with a repeats and b atoms of a cell
 module _ (ts ws : List ArrayType) (os p rs ss : List ℕ) (i : ℕ) (t : ArrayType) (a b : ℕ) (r-four : length rs ≡ 4) (s-four : length ss ≡ 4) (h : i < 4) (k : i < length ws)
     (is : array_type t ≡ type_at (types_of ts) (get_or os i 0)) (a-is : a ≡ small (repeats p (dims (get_or ws i absent).shape) (dims t.shape))) (b-is : b ≡ small (size (dims (get_or ws i absent).shape)))
     (before : (k : ℕ) → k < i → LiftedAt (types_of ts) (types_of ws) os p rs ss k) where
   cell_is : dims (get_or ws i absent).shape ≡ (get_or (types_of ws) i theory.no_type).shape
-  cell_is = ap (λ (u : theory.ArrayType). u.shape) (type-within ws i absent k)
+  cell_is = ap (λ (u : theory.ArrayType). u.shape) (type_within ws i absent k)
 
-  pub lifted-more : (k : ℕ) → k < i + 1 → LiftedAt (types_of ts) (types_of ws) os p (set rs i a) (set ss i b) k
-  lifted-more = below_more (LiftedAt (types_of ts) (types_of ws) os p (set rs i a) (set ss i b)) i
+  pub lifted_more : (k : ℕ) → k < i + 1 → LiftedAt (types_of ts) (types_of ws) os p (set rs i a) (set ss i b) k
+  lifted_more = below_more (LiftedAt (types_of ts) (types_of ws) os p (set rs i a) (set ss i b)) i
       (λ j l. let ne : j ≢ i = omega arith in (get_or-set_other rs i j a 0 ne ∙ (before j l).0, get_or-set_other ss i j b 0 ne ∙ (before j l).1)) (
         get_or-set_same rs i a 0 (omega arith) ∙ a-is ∙ ap (λ (x : List ℕ). small (repeats p x (dims t.shape))) cell_is ∙ ap (λ (u : theory.ArrayType). small (repeats p (get_or (types_of ws) i theory.no_type).shape u.shape)) is,
         get_or-set_same ss i b 0 (omega arith) ∙ b-is ∙ ap (λ (x : List ℕ). small (size x)) cell_is,
@@ -32,49 +32,49 @@ module _ (ts ws : List ArrayType) (os p rs ss : List ℕ) (i : ℕ) (t : ArrayTy
 
 -- ---- allowed shapes and their parts
 
-extent-some : (xs : List ℕ) → 1 ≤ extent xs
-extent-some [] = omega arith
-extent-some (x ∷ xs) =
+extent_some : (xs : List ℕ) → 1 ≤ extent xs
+extent_some [] = omega arith
+extent_some (x ∷ xs) =
     let one : 1 ≤ max 1 x = omega arith in
-    let more : max 1 x * 1 ≤ max 1 x * extent xs = mul-le-mul_left (max 1 x) (extent-some xs) in
+    let more : max 1 x * 1 ≤ max 1 x * extent xs = mul-le-mul_left (max 1 x) (extent_some xs) in
     omega (arith, one, more, mul-one (max 1 x))
 
-extent-append : (xs ys : List ℕ) → extent (xs ++ ys) ≡ extent xs * extent ys
-extent-append = product-append extent (max 1) refl (λ x xs. refl)
+extent_append : (xs ys : List ℕ) → extent (xs ++ ys) ≡ extent xs * extent ys
+extent_append = product_append extent (max 1) refl (λ x xs. refl)
 
 -- both parts of an allowed shape are allowed
-pub allowed-parts : (a b : List ℕ) → allowed (a ++ b) ≡ true → (allowed a ≡ true) × (allowed b ≡ true)
-allowed-parts a b h =
+pub allowed_parts : (a b : List ℕ) → allowed (a ++ b) ≡ true → (allowed a ≡ true) × (allowed b ≡ true)
+allowed_parts a b h =
     let u = and_parts (leb (length (a ++ b)) 4) (leb (extent (a ++ b)) 65536) h in
     let few : length (a ++ b) ≤ 4 = leb-true (length (a ++ b)) 4 u.0 in
     let within : extent (a ++ b) ≤ 65536 = leb-true (extent (a ++ b)) 65536 u.1 in
     let long = length-append a b in
-    let whole = extent-append a b in
-    let left : extent a * 1 ≤ extent a * extent b = mul-le-mul_left (extent a) (extent-some b) in
-    let right : 1 * extent b ≤ extent a * extent b = mul-le-mul_right (extent b) (extent-some a) in
+    let whole = extent_append a b in
+    let left : extent a * 1 ≤ extent a * extent b = mul-le-mul_left (extent a) (extent_some b) in
+    let right : 1 * extent b ≤ extent a * extent b = mul-le-mul_right (extent b) (extent_some a) in
     let units = mul-one (extent a) in
     let units' = one-mul (extent b) in (
       and_from (leb (length a) 4) (leb (extent a) 65536) (le-leb (length a) 4 (omega arith)) (le-leb (extent a) 65536 (omega arith)),
       and_from (leb (length b) 4) (leb (extent b) 65536) (le-leb (length b) 4 (omega arith)) (le-leb (extent b) 65536 (omega arith)),
     )
 
-pub allowed-back : (n : ℕ) (s : List ℕ) → allowed s ≡ true → allowed (drop n s) ≡ true
-allowed-back n s h = (allowed-parts (take n s) (drop n s) (ap allowed (take-append-drop n s) ∙ h)).1
+pub allowed_back : (n : ℕ) (s : List ℕ) → allowed s ≡ true → allowed (drop n s) ≡ true
+allowed_back n s h = (allowed_parts (take n s) (drop n s) (ap allowed (take-append-drop n s) ∙ h)).1
 
 -- a cell in which an allowed shape ends is allowed
-pub allowed-cell : (cell s : List ℕ) → allowed s ≡ true → ends cell s ≡ true → allowed cell ≡ true
-allowed-cell cell s h e =
+pub allowed_cell : (cell s : List ℕ) → allowed s ≡ true → ends cell s ≡ true → allowed cell ≡ true
+allowed_cell cell s h e =
     let back : drop (length s - length cell) s ≡ cell = same_equal (drop (length s - length cell) s) cell (and_parts (leb (length cell) (length s)) (same (drop (length s - length cell) s) cell) e).1 in
-    sym (ap allowed back) ∙ allowed-back (length s - length cell) s h
+    sym (ap allowed back) ∙ allowed_back (length s - length cell) s h
 
 -- the size of an allowed shape is exact in 32 bits
 pub small_is : (s : List ℕ) → allowed s ≡ true → small (size s) ≡ size s
-small_is s h = let k = size-allowed s h in omega arith
+small_is s h = let k = size_allowed s h in omega arith
 
-pub type-allowed : (types : List theory.ArrayType) (o : ℕ) → AllAllowed types → allowed (type_at types o).shape ≡ true
-type-allowed [] o a = refl
-type-allowed (t ∷ types) zero a = a.0
-type-allowed (t ∷ types) (suc o) a = type-allowed types o a.1
+pub type_allowed : (types : List theory.ArrayType) (o : ℕ) → AllAllowed types → allowed (type_at types o).shape ≡ true
+type_allowed [] o a = refl
+type_allowed (t ∷ types) zero a = a.0
+type_allowed (t ∷ types) (suc o) a = type_allowed types o a.1
 
 -- ---- the operands of a plan
 
@@ -87,32 +87,32 @@ fit_at test types (w ∷ ws) (o ∷ os) zero h k e = (and_parts (test (type_at t
 fit_at test types (w ∷ ws) (o ∷ os) (suc i) h k e = fit_at test types ws os i (omega arith) (omega arith) (and_parts (test (type_at types o) w) (each_fits test types ws os) e).1
 
 -- operands from number i on, each lifted as the theory has it
-planned-from : (types ws : List theory.ArrayType) (p os : List ℕ) (t : Typed) (i : ℕ) → length os ≤ length ws
+planned_from : (types ws : List theory.ArrayType) (p os : List ℕ) (t : Typed) (i : ℕ) → length os ≤ length ws
     → ((j : ℕ) → j < length os → (get_or t.repeats (i + j) 0 ≡ repeats p (get_or ws j theory.no_type).shape (type_at types (get_or os j 0)).shape) × (get_or t.sizes (i + j) 0 ≡ size (get_or ws j theory.no_type).shape))
     → planned_operands t i os ≡ operands_of types p ws os
-planned-from types [] p [] t i h each = refl
-planned-from types (w ∷ ws) p [] t i h each = refl
-planned-from types [] p (o ∷ os) t i h each = absurd (omega arith)
-planned-from types (w ∷ ws) p (o ∷ os) t i h each =
+planned_from types [] p [] t i h each = refl
+planned_from types (w ∷ ws) p [] t i h each = refl
+planned_from types [] p (o ∷ os) t i h each = absurd (omega arith)
+planned_from types (w ∷ ws) p (o ∷ os) t i h each =
     let here = each 0 (omega arith) in
     let r-is : get_or t.repeats i 0 ≡ repeats p w.shape (type_at types o).shape = ap (λ (n : ℕ). get_or t.repeats n 0) (sym (add-zero i)) ∙ here.0 in
     let s_is : get_or t.sizes i 0 ≡ size w.shape = ap (λ (n : ℕ). get_or t.sizes n 0) (sym (add-zero i)) ∙ here.1 in
     let next : (j : ℕ) → suc i + j ≡ i + suc j = λ j. omega arith in
-    let rest = planned-from types ws p os t (suc i) (omega arith) (λ j l. let u = each (suc j) (omega arith) in (ap (λ (n : ℕ). get_or t.repeats n 0) (next j) ∙ u.0, ap (λ (n : ℕ). get_or t.sizes n 0) (next j) ∙ u.1)) in
+    let rest = planned_from types ws p os t (suc i) (omega arith) (λ j l. let u = each (suc j) (omega arith) in (ap (λ (n : ℕ). get_or t.repeats n 0) (next j) ∙ u.0, ap (λ (n : ℕ). get_or t.sizes n 0) (next j) ∙ u.1)) in
     ap (λ (n : ℕ). record { line = o; repeats = n; size = get_or t.sizes i 0 } ∷ planned_operands t (suc i) os) r-is
     ∙ ap (λ (n : ℕ). record { line = o; repeats = repeats p w.shape (type_at types o).shape; size = n } ∷ planned_operands t (suc i) os) s_is
     ∙ ap (λ (us : List Operand). record { line = o; repeats = repeats p w.shape (type_at types o).shape; size = size w.shape } ∷ us) rest
 
 -- the operands of an application of which all is allowed
-pub planned-lifted : (types ws : List theory.ArrayType) (p os : List ℕ) (t : Typed) → AllAllowed types → allowed p ≡ true → cells_fit types ws os ≡ true → length os ≤ length ws → length os ≤ 4
+pub planned_lifted : (types ws : List theory.ArrayType) (p os : List ℕ) (t : Typed) → AllAllowed types → allowed p ≡ true → cells_fit types ws os ≡ true → length os ≤ length ws → length os ≤ 4
     → Lifted types ws os p t.repeats t.sizes → planned_operands t 0 os ≡ operands_of types p ws os
-planned-lifted types ws p os t all h fit l m lifted =
-    planned-from types ws p os t 0 l (λ j k.
+planned_lifted types ws p os t all h fit l m lifted =
+    planned_from types ws p os t 0 l (λ j k.
     let shape : List ℕ = (type_at types (get_or os j 0)).shape in
     let cell : List ℕ = (get_or ws j theory.no_type).shape in
     let u = lifted j k (omega arith) (omega arith) in
     let fits : ends cell shape ≡ true = fit_at (λ t w. ends w.shape t.shape) types ws os j (omega arith) k fit in
     let plain : 0 + j ≡ j = omega arith in (
-      ap (λ (n : ℕ). get_or t.repeats n 0) plain ∙ u.0 ∙ small_is (drop (length shape - length cell) p) (allowed-back (length shape - length cell) p h),
-      ap (λ (n : ℕ). get_or t.sizes n 0) plain ∙ u.1 ∙ small_is cell (allowed-cell cell shape (type-allowed types (get_or os j 0) all) fits),
+      ap (λ (n : ℕ). get_or t.repeats n 0) plain ∙ u.0 ∙ small_is (drop (length shape - length cell) p) (allowed_back (length shape - length cell) p h),
+      ap (λ (n : ℕ). get_or t.sizes n 0) plain ∙ u.1 ∙ small_is cell (allowed_cell cell shape (type_allowed types (get_or os j 0) all) fits),
     ))

@@ -10,7 +10,7 @@ use Rattle.remora.specs.Questions.{Question, type_at, earlier, cells_fit, foldab
 use Rattle.remora.specs.Machine.{Operand, Plan, plan_of, operands_of, frame_operands, kind_for, number_of, items_of, item_of}
 use Rattle.shapes.specs.declared.ArrayType.{ArrayType}
 use Rattle.shapes.specs.Axes.{array_type}
-use Rattle.shapes.proofs.Products.{size-allowed}
+use Rattle.shapes.proofs.Products.{size_allowed}
 use Rattle.lines.specs.declared.refusals.Refusal.{Refusal}
 use Rattle.lines.specs.declared.refusals.Refusal.TheVariants.{BadFunction}
 use Rattle.typing.specs.declared.found.Entry.{Entry}
@@ -19,16 +19,16 @@ use Rattle.typing.specs.declared.found.Typed.{Typed}
 use Rattle.typing.specs.Typings.{types_of, answer_at, Refused, Judged, operands_asked, shape_asked}
 use Rattle.typing.specs.Plans.{AllAllowed, planned_operands, FoundAs, TypedAs, Applies, Applied, Folded, Appended, small, items_in, entry_of, known_in, usable_in}
 use Rattle.typing.proofs.Judging.{all_yes, yes_all, judged_yes, judged_as, refused_no}
-use Rattle.typing.proofs.Repeating.{allowed-parts, allowed-back, small_is, planned-lifted}
+use Rattle.typing.proofs.Repeating.{allowed_parts, allowed_back, small_is, planned_lifted}
 
 -- ---- operands and base types
 
 pub few_operands : (n : ℕ) (os : List ℕ) → length os ≡ 4 → length (take n os) ≤ 4
 few_operands n os h = let e = length-take n os in omega arith
 
-scalars-length : (bs : List ℕ) → length (scalars bs) ≡ length bs
-scalars-length [] = refl
-scalars-length (b ∷ bs) = ap suc (scalars-length bs)
+scalars_length : (bs : List ℕ) → length (scalars bs) ≡ length bs
+scalars_length [] = refl
+scalars_length (b ∷ bs) = ap suc (scalars_length bs)
 
 pub scalars_three : (bs : List ℕ) (x y z : theory.ArrayType) → length bs ≡ 3 → x ≡ shaped (get_or bs 0 0) [] → y ≡ shaped (get_or bs 1 0) [] → z ≡ shaped (get_or bs 2 0) [] → x ∷ y ∷ z ∷ [] ≡ scalars bs
 scalars_three [] x y z h ex ey ez = absurd (omega arith)
@@ -38,15 +38,15 @@ scalars_three (a ∷ b ∷ c ∷ []) x y z h ex ey ez = ap (λ (u : theory.Array
 scalars_three (a ∷ b ∷ c ∷ d ∷ bs) x y z h ex ey ez = absurd (omega arith)
 
 -- the first base types
-pub scalars-take : (n : ℕ) (bs : List ℕ) (ts : List ArrayType) → types_of ts ≡ scalars bs → types_of (take n ts) ≡ scalars (take n bs)
-scalars-take zero bs ts e = refl
-scalars-take (suc n) [] [] e = refl
-scalars-take (suc n) [] (t ∷ ts) e = let z = ap length e in absurd (omega arith)
-scalars-take (suc n) (b ∷ bs) [] e = let z = ap length e in absurd (omega arith)
-scalars-take (suc n) (b ∷ bs) (t ∷ ts) e =
+pub scalars_take : (n : ℕ) (bs : List ℕ) (ts : List ArrayType) → types_of ts ≡ scalars bs → types_of (take n ts) ≡ scalars (take n bs)
+scalars_take zero bs ts e = refl
+scalars_take (suc n) [] [] e = refl
+scalars_take (suc n) [] (t ∷ ts) e = let z = ap length e in absurd (omega arith)
+scalars_take (suc n) (b ∷ bs) [] e = let z = ap length e in absurd (omega arith)
+scalars_take (suc n) (b ∷ bs) (t ∷ ts) e =
     let here : array_type t ≡ shaped b [] = cc in
     let rest : types_of ts ≡ scalars bs = cc in
-    ap (λ (u : theory.ArrayType). u ∷ types_of (take n ts)) here ∙ ap (λ (us : List theory.ArrayType). shaped b [] ∷ us) (scalars-take n bs ts rest)
+    ap (λ (u : theory.ArrayType). u ∷ types_of (take n ts)) here ∙ ap (λ (us : List theory.ArrayType). shaped b [] ∷ us) (scalars_take n bs ts rest)
 
 -- ---- what is known of a formula
 
@@ -70,9 +70,9 @@ abbrev pub line_is : ℕ → ℕ → List ℕ → ℕ → List ℕ → List ℕ 
 line_is k b s o os cs = record { kind = k; base = b; shape = s; function = o; operands = os; codes = cs }
 
 -- the same of equal cells and operands
-pub applied-at : (types ws vs : List theory.ArrayType) (us os : List ℕ) (cell d : theory.ArrayType) (x : Items) (line : ℕ) (r : Result Typed Refusal) → ws ≡ vs → us ≡ os → cell ≡ d
+pub applied_at : (types ws vs : List theory.ArrayType) (us os : List ℕ) (cell d : theory.ArrayType) (x : Items) (line : ℕ) (r : Result Typed Refusal) → ws ≡ vs → us ≡ os → cell ≡ d
     → Applied types ws us cell x line r → Applied types vs os d x line r
-applied-at types ws vs us os cell d x line r ws-is us-is cell_is a =
+applied_at types ws vs us os cell d x line r ws-is us-is cell_is a =
     subst (λ (v : List theory.ArrayType). Applied types v os d x line r) ws-is (subst (λ (v : List ℕ). Applied types ws v d x line r) us-is (subst (λ (v : theory.ArrayType). Applied types ws us v x line r) cell_is a))
 
 -- the first axis as a read
@@ -99,33 +99,33 @@ foldable_is n r (a ∷ b ∷ c ∷ d ∷ bs) h = absurd (omega arith)
 -- ---- a first axis beyond 32 bits
 
 first_bound : (x : ℕ) (d : List ℕ) → allowed (x ∷ d) ≡ true → x ≤ 65536
-first_bound x d h = let k = size-allowed (x ∷ []) (allowed-parts (x ∷ []) d h).0 in let e = mul-one x in omega arith
+first_bound x d h = let k = size_allowed (x ∷ []) (allowed_parts (x ∷ []) d h).0 in let e = mul-one x in omega arith
 
-not-allowed : (p d : List ℕ) (x : ℕ) → 65536 < x → allowed (p ++ x ∷ d) ≡ false
-not-allowed p d x h = go (allowed (p ++ x ∷ d)) refl
+not_allowed : (p d : List ℕ) (x : ℕ) → 65536 < x → allowed (p ++ x ∷ d) ≡ false
+not_allowed p d x h = go (allowed (p ++ x ∷ d)) refl
   where
     go : (b : Bool) → allowed (p ++ x ∷ d) ≡ b → b ≡ false
-    go true e = let k = first_bound x d (allowed-parts p (x ∷ d) e).1 in absurd (omega arith)
+    go true e = let k = first_bound x d (allowed_parts p (x ∷ d) e).1 in absurd (omega arith)
     go false e = refl
 
 -- where the first axis of the result's cell is cut off at 32 bits, question 13 is answered by no all the same
-pub applied-small : (types ws : List theory.ArrayType) (os d : List ℕ) (b x y : ℕ) (z : Items) (line : ℕ) (r : Result Typed Refusal) → y ≡ small x → Applied types ws os (shaped b (y ∷ d)) z line r → Applied types ws os (shaped b (x ∷ d)) z line r
-applied-small types ws os d b x y z line r e a = go (cases_lt 4294967295 x) r a
+pub applied_small : (types ws : List theory.ArrayType) (os d : List ℕ) (b x y : ℕ) (z : Items) (line : ℕ) (r : Result Typed Refusal) → y ≡ small x → Applied types ws os (shaped b (y ∷ d)) z line r → Applied types ws os (shaped b (x ∷ d)) z line r
+applied_small types ws os d b x y z line r e a = go (cases_lt 4294967295 x) r a
   where
     go : (4294967295 < x) ⊎ (x ≤ 4294967295) → (r : Result Typed Refusal) → Applied types ws os (shaped b (y ∷ d)) z line r → Applied types ws os (shaped b (x ∷ d)) z line r
     go (inr h) r a = let same : y ≡ x = omega arith in subst (λ (v : ℕ). Applied types ws os (shaped b (v ∷ d)) z line r) same a
-    go (inl h) (Ok t) a = absurd (both_ways (allowed (principal (frames types ws os) ++ y ∷ d)) (not-allowed (principal (frames types ws os)) d y (omega arith)) (all_yes (operands_asked types ws os ++ shape_asked (principal (frames types ws os) ++ y ∷ d)) a.0).1.1.1.0)
+    go (inl h) (Ok t) a = absurd (both_ways (allowed (principal (frames types ws os) ++ y ∷ d)) (not_allowed (principal (frames types ws os)) d y (omega arith)) (all_yes (operands_asked types ws os ++ shape_asked (principal (frames types ws os) ++ y ∷ d)) a.0).1.1.1.0)
     go (inl h) (Err f) a =
-        ap (λ (v : Bool). answer_at line (first_no (operands_asked types ws os ++ (13, v) ∷ []))) (not-allowed (principal (frames types ws os)) d x (omega arith) ∙ sym (not-allowed (principal (frames types ws os)) d y (omega arith))) ∙ a
+        ap (λ (v : Bool). answer_at line (first_no (operands_asked types ws os ++ (13, v) ∷ []))) (not_allowed (principal (frames types ws os)) d x (omega arith) ∙ sym (not_allowed (principal (frames types ws os)) d y (omega arith))) ∙ a
 
 -- operands of a frame line from number i on
-framed-from : (cell os : List ℕ) (t : Typed) (i : ℕ) → ((j : ℕ) → j < i + length os → (get_or t.repeats j 0 ≡ 1) × (get_or t.sizes j 0 ≡ size cell)) → planned_operands t i os ≡ frame_operands cell os
-framed-from cell [] t i each = refl
-framed-from cell (o ∷ os) t i each =
+framed_from : (cell os : List ℕ) (t : Typed) (i : ℕ) → ((j : ℕ) → j < i + length os → (get_or t.repeats j 0 ≡ 1) × (get_or t.sizes j 0 ≡ size cell)) → planned_operands t i os ≡ frame_operands cell os
+framed_from cell [] t i each = refl
+framed_from cell (o ∷ os) t i each =
     let here = each i (omega arith) in
     ap (λ (n : ℕ). record { line = o; repeats = n; size = get_or t.sizes i 0 } ∷ planned_operands t (suc i) os) here.0
     ∙ ap (λ (n : ℕ). record { line = o; repeats = 1; size = n } ∷ planned_operands t (suc i) os) here.1
-    ∙ ap (λ (us : List Operand). record { line = o; repeats = 1; size = size cell } ∷ us) (framed-from cell os t (suc i) (λ j h. each j (omega arith)))
+    ∙ ap (λ (us : List Operand). record { line = o; repeats = 1; size = size cell } ∷ us) (framed_from cell os t (suc i) (λ j h. each j (omega arith)))
 
 four_same : (x j : ℕ) → j < 4 → get_or (x ∷ x ∷ x ∷ x ∷ []) j 0 ≡ x
 four_same x zero h = refl
@@ -147,13 +147,13 @@ module _ (m : Meaning) (n : ℕ) (E : ℕ → theory.Entry) (usable : ℕ → Bo
         → Applies types (cells m E f) os (principal_frame m E ps types f os) (result_cell m E f) x t → Applying f os t
     application t fit h a =
         let p : List ℕ = principal_frame m E ps types f os in
-        let parts = allowed-parts p (result_cell m E f).shape h in
+        let parts = allowed_parts p (result_cell m E f).shape h in
         let k : theory.Kind = kind_for f in
         let g : ℕ = number_of f in
         let type : theory.ArrayType = shaped (result_cell m E f).base (p ++ (result_cell m E f).shape) in (
           a.type,
           λ all q.
-              ap (λ (us : List Operand). made k g us t.cells t.items t.item (array_type t.array) q) (planned-lifted types (cells m E f) p os t all parts.0 fit (omega arith) few a.lifted)
+              ap (λ (us : List Operand). made k g us t.cells t.items t.item (array_type t.array) q) (planned_lifted types (cells m E f) p os t all parts.0 fit (omega arith) few a.lifted)
               ∙ ap (λ (u : ℕ). made k g (operands_of types p (cells m E f) os) u t.items t.item (array_type t.array) q) a.cells
               ∙ ap (λ (u : ℕ). made k g (operands_of types p (cells m E f) os) (size p) u t.item (array_type t.array) q) (a.items ∙ number)
               ∙ ap (λ (u : ℕ). made k g (operands_of types p (cells m E f) os) (size p) (items_of f) u (array_type t.array) q) (a.item ∙ atoms parts.1)
@@ -161,9 +161,9 @@ module _ (m : Meaning) (n : ℕ) (E : ℕ → theory.Entry) (usable : ℕ → Bo
         )
 
     -- the questions from 9 on of an application that is no fold
-    pub application-judged : (line : ℕ) (r : Result Typed Refusal) → Applied types (cells m E f) os (result_cell m E f) x line r
+    pub application_judged : (line : ℕ) (r : Result Typed Refusal) → Applied types (cells m E f) os (result_cell m E f) x line r
         → Judged (operand_questions m n E usable ps types f os ++ shape_asked (principal_frame m E ps types f os ++ (result_cell m E f).shape)) (Applying f os) line r
-    application-judged line r a =
+    application_judged line r a =
         judged_as (Applies types (cells m E f) os (principal_frame m E ps types f os) (result_cell m E f) x) (Applying f os) (operands_asked types (cells m E f) os ++ shape_asked (principal_frame m E ps types f os ++ (result_cell m E f).shape)) line r
         (λ t yes u. application t yes.1.0 yes.1.1.1.0 u) a
 
@@ -178,12 +178,12 @@ module _ (m : Meaning) (n : ℕ) (E : ℕ → theory.Entry) (usable : ℕ → Bo
       let f : Function = primitive l.function in
       let x : Items = record { number = 0; atoms = 0 } in
       let o = m.operator l.function in
-      let many : length l.operands ≡ length (cells m E f) = count ∙ sym (scalars-length o.operands) in
+      let many : length l.operands ≡ length (cells m E f) = count ∙ sym (scalars_length o.operands) in
       let qs : List Question = operand_questions m n E usable ps types f l.operands ++ shape_asked (principal_frame m E ps types f l.operands ++ (result_cell m E f).shape) in
       judged_yes (FoundAs m E ps types theory.an_operator l) 7 (earlier types l.operands && (ltb l.function m.operators && eqb (length l.operands) (length o.operands))) qs line r
       (and_from _ _ early (and_from _ _ (lt-ltb _ _ known) (eq-eqb _ _ count)))
       (judged_as (Applying f l.operands) (FoundAs m E ps types theory.an_operator l) qs line r (λ t yes u. record { type = u.0; plan = u.1 })
-      (application-judged f l.operands x few many refl (λ h. refl) line r (applied-at types ws (cells m E f) os l.operands cell (result_cell m E f) x line r ws-is os-is cell_is a)))
+      (application_judged f l.operands x few many refl (λ h. refl) line r (applied_at types ws (cells m E f) os l.operands cell (result_cell m E f) x line r ws-is os-is cell_is a)))
 
   pub call_ruled : (l : theory.Line) (os : List ℕ) (ws : List theory.ArrayType) (cell : theory.ArrayType) (line : ℕ) (r : Result Typed Refusal)
       → ws ≡ (E l.function).parameters → os ≡ l.operands → cell ≡ (E l.function).result
@@ -197,10 +197,10 @@ module _ (m : Meaning) (n : ℕ) (E : ℕ → theory.Entry) (usable : ℕ → Bo
       judged_yes (FoundAs m E ps types theory.a_call l) 7 (earlier types l.operands && ((ltb l.function n && usable l.function) && eqb (length l.operands) (length (E l.function).parameters))) qs line r
       (and_from _ _ early (and_from _ _ known (eq-eqb _ _ count)))
       (judged_as (Applying f l.operands) (FoundAs m E ps types theory.a_call l) qs line r (λ t yes u. record { type = u.0; plan = u.1 })
-      (application-judged f l.operands x few count refl (λ h. refl) line r (applied-at types ws (cells m E f) os l.operands cell (result_cell m E f) x line r ws-is os-is cell_is a)))
+      (application_judged f l.operands x few count refl (λ h. refl) line r (applied_at types ws (cells m E f) os l.operands cell (result_cell m E f) x line r ws-is os-is cell_is a)))
 
-  pub call-refused : (l : theory.Line) (line : ℕ) → (length l.operands ≡ length (E l.function).parameters → ⊥) → Refused (questions_of m n E usable ps types theory.a_call l) line (BadFunction line)
-  call-refused l line h =
+  pub call_refused : (l : theory.Line) (line : ℕ) → (length l.operands ≡ length (E l.function).parameters → ⊥) → Refused (questions_of m n E usable ps types theory.a_call l) line (BadFunction line)
+  call_refused l line h =
       let f : Function = formula l.function in
       refused_no 7 (earlier types l.operands && ((ltb l.function n && usable l.function) && eqb (length l.operands) (length (E l.function).parameters)))
       (operand_questions m n E usable ps types f l.operands ++ shape_asked (principal_frame m E ps types f l.operands ++ (result_cell m E f).shape)) line (BadFunction line)
@@ -220,8 +220,8 @@ module _ (m : Meaning) (n : ℕ) (E : ℕ → theory.Entry) (usable : ℕ → Bo
       judged_yes (FoundAs m E ps types theory.a_reverse l) 7 (earlier types os && eqb (length os) 1) ((8, true) ∷ qs) line r (and_from _ _ early (eq-eqb _ _ count))
       (judged_yes (FoundAs m E ps types theory.a_reverse l) 8 true qs line r refl
       (judged_as (Applying f os) (FoundAs m E ps types theory.a_reverse l) qs line r (λ t yes u. record { type = u.0; plan = u.1 })
-      (application-judged f os x (omega arith) count refl (λ h. small_is d (allowed-back 1 (i ∷ d) h)) line r
-      (applied-at types (w ∷ []) (cells m E f) us os w (result_cell m E f) x line r (ap (λ (u : theory.ArrayType). u ∷ []) w-is) us-is w-is a))))
+      (application_judged f os x (omega arith) count refl (λ h. small_is d (allowed_back 1 (i ∷ d) h)) line r
+      (applied_at types (w ∷ []) (cells m E f) us os w (result_cell m E f) x line r (ap (λ (u : theory.ArrayType). u ∷ []) w-is) us-is w-is a))))
 
   pub append_ruled : (k b o j : ℕ) (s os cs us : List ℕ) (w : theory.ArrayType) (line : ℕ) (r : Result Typed Refusal)
       → w ≡ shaped (type_at types (get_or os 0 0)).base s → j ≡ first_axis (second_cell m E ps types (line_is k b s o os cs)) → us ≡ os → earlier types os ≡ true → length os ≡ 2 → has_axis s ≡ true
@@ -240,7 +240,7 @@ module _ (m : Meaning) (n : ℕ) (E : ℕ → theory.Entry) (usable : ℕ → Bo
       judged_yes (FoundAs m E ps types theory.an_append l) 7 (earlier types os && eqb (length os) 2) ((8, true) ∷ qs) line r (and_from _ _ early (eq-eqb _ _ count))
       (judged_yes (FoundAs m E ps types theory.an_append l) 8 true qs line r refl
       (judged_as (Applying f os) (FoundAs m E ps types theory.an_append l) qs line r (λ t yes u. record { type = u.0; plan = u.1 })
-      (application-judged f os x (omega arith) count refl (λ e. small_is d (allowed-back 1 ((i + h) ∷ d) e)) line r a')))
+      (application_judged f os x (omega arith) count refl (λ e. small_is d (allowed_back 1 ((i + h) ∷ d) e)) line r a')))
 
   pub fold_ruled : (k b o : ℕ) (s os cs us : List ℕ) (w : theory.ArrayType) (unit : Option ℕ) (line : ℕ) (r : Result Typed Refusal)
       → w ≡ shaped (m.operator o).result s → unit ≡ (m.operator o).unit → us ≡ os → earlier types os ≡ true → o < m.operators → foldable (m.operator o).operands (m.operator o).result ≡ true → length os ≡ 1 → has_axis s ≡ true
@@ -276,7 +276,7 @@ module _ (m : Meaning) (n : ℕ) (E : ℕ → theory.Entry) (usable : ℕ → Bo
       let rank_is : l.function ≡ length p = sym (length-take-le l.function l.shape rank) in
       let cell_is : s ≡ size (drop (length p) l.shape) = s_is ∙ ap (λ (v : ℕ). size (drop v l.shape)) rank_is in
       let operands-are : planned_operands t 0 os ≡ frame_operands (drop (length p) l.shape) os =
-      framed-from (drop (length p) l.shape) os t 0 (λ j e. let k : j < 4 = omega arith in (four_same 1 j k, four_same s j k ∙ cell_is)) in (
+      framed_from (drop (length p) l.shape) os t 0 (λ j e. let k : j < 4 = omega arith in (four_same 1 j k, four_same s j k ∙ cell_is)) in (
         yes_all (questions_of m n E usable ps types theory.a_frame l) (early, (and_from _ _ (le-leb _ _ rank) (eq-eqb _ _ parts), (bases, (shapes, (h, tt))))),
         record {
           type = array-is;
@@ -290,9 +290,9 @@ module _ (m : Meaning) (n : ℕ) (E : ℕ → theory.Entry) (usable : ℕ → Bo
 
   -- ---- the rule, from that of the line's kind
 
-  pub typed-refused : (l : theory.Line) (k : theory.Kind) (line : ℕ) (out : Typed) (e : Refusal) (r : Result (Unit {0}) Refusal) → theory.kind_of l.kind ≡ k → r ≡ Err e
+  pub typed_refused : (l : theory.Line) (k : theory.Kind) (line : ℕ) (out : Typed) (e : Refusal) (r : Result (Unit {0}) Refusal) → theory.kind_of l.kind ≡ k → r ≡ Err e
       → Refused (questions_of m n E usable ps types k l) line e → TypedAs m n E usable ps types l line out r out
-  typed-refused l k line out e r h is j =
+  typed_refused l k line out e r h is j =
       subst (λ (v : Result (Unit {0}) Refusal). TypedAs m n E usable ps types l line out v out) (sym is) (subst (λ (v : theory.Kind). Refused (questions_of m n E usable ps types v l) line e) (sym h) j, refl)
 
   pub typed_found : (l : theory.Line) (k : theory.Kind) (line : ℕ) (out t : Typed) (u : Unit {0}) → theory.kind_of l.kind ≡ k

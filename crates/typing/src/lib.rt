@@ -1,4 +1,6 @@
 // The typing rule: what a line and its operands are asked, in order, and what is found of the line.
+#![tactic(auto)]
+
 mod applications;
 mod contents;
 mod found;

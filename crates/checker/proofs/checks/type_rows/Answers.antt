@@ -11,22 +11,22 @@ pub loop-k-init : goal.loop-k-init
 loop-k-init g c =
     (progress_start g.A.Algebra.meaning c.args.formulas.now (types_of c.args.parameters.now) c.args.codes.now c.args.rows.now _ c.none.result c.none.ensures, refl)
 
-pub returns-in-err-type-row : goal.returns-in-err-type-row
-returns-in-err-type-row g c =
+pub returns-in_err-type_row : goal.returns-in_err-type_row
+returns-in_err-type_row g c =
     let q = err_from_is_err_and c.from-residual.result c.from-residual.ensures.1 in
     let k = c.loop-k.k in
     let own : take (k - 0) c.loop-k.types ≡ take k c.loop-k.types = ap (λ (n : ℕ). take n c.loop-k.types) (omega arith) in
     rw (q.1, q.2) (progress_stop g.A.Algebra.meaning c.args.formulas.now (types_of c.args.parameters.now) c.args.codes.now c.args.rows.now k c.loop-k.types c.loop-k.rows c.loop-k.forecast
-    c.loop-k.invariant.0 (omega arith) _ (take (k - 0) c.loop-k.types) c.type-row.new.row _ c.loop-k.forecast.place c.loop-k.forecast own (omega arith) c.in-err-type-row.ensures)
+    c.loop-k.invariant.0 (omega arith) _ (take (k - 0) c.loop-k.types) c.type_row.new.row _ c.loop-k.forecast.place c.loop-k.forecast own (omega arith) c.in_err-type_row.ensures)
 
 pub loop-k-preserved : goal.loop-k-preserved
 loop-k-preserved g c =
     let k = c.loop-k.k in
     let own : take (k - 0) c.loop-k.types ≡ take k c.loop-k.types = ap (λ (n : ℕ). take n c.loop-k.types) (omega arith) in
     let share-is = c.of.ensures.exact in
-    let few : (share_of c.known-callee.result c.type-row.new.row).steps < 2 ^ 64 = subst (λ (s : Share). s.steps < 2 ^ 64) share-is c.of.ensures.bound in (
+    let few : (share_of c.known-callee.result c.type_row.new.row).steps < 2 ^ 64 = subst (λ (s : Share). s.steps < 2 ^ 64) share-is c.of.ensures.bound in (
       progress_next g.A.Algebra.meaning c.args.formulas.now (types_of c.args.parameters.now) c.args.codes.now c.args.rows.now k c.loop-k.types c.loop-k.rows c.loop-k.forecast
-          c.loop-k.invariant.0 (omega arith) _ (take (k - 0) c.loop-k.types) c.type-row.new.row _ c.known-callee.result c.add.new.self _ own (omega arith) refl c.in-ok-type-row.ensures
+          c.loop-k.invariant.0 (omega arith) _ (take (k - 0) c.loop-k.types) c.type_row.new.row _ c.known-callee.result c.add.new.self _ own (omega arith) refl c.in_ok-type_row.ensures
           c.known-callee.ensures few (c.add.ensures ∙ ap (added c.loop-k.forecast) share-is),
       length-set c.loop-k.types k _ ∙ c.loop-k.invariant.1,
     )

@@ -4,7 +4,7 @@ use Rattle.std.proofs.lemmas.Result.{err_from_is_err_and}
 use Rattle.typing.specs.declared.found.Entry.{Entry}
 use Rattle.formulas.specs.Changes.{kept}
 use Rattle.formulas.specs.Checking.{DraftChecked}
-use Rattle.collection.proofs.Entering.{enter-not, enter-refused, enter-kept, asked_yes, asked_no, keep_fits}
+use Rattle.collection.proofs.Entering.{enter_not, enter_refused, enter_kept, asked_yes, asked_no, keep_fits}
 use Rattle.collection.proofs.entries.entered.Goals.{then-draft-eq0-via-then-draft-eq0, then-draft-eq0-via-else-draft-eq0+then-tables-ge64}
 use Rattle.collection.proofs.entries.entered.Goals as goal
 
@@ -14,20 +14,20 @@ returns-then-draft-eq0 g c =
     let d = c.args.draft.now in
     let t = c.args.tables.now in
     elim c.then-draft-eq0.branch [
-      | then-draft-eq0-via-then-draft-eq0 w ↦ enter-not m d t c.requires (asked_no m d t c.requires (inl w.if-draft-eq0.true))
-      | then-draft-eq0-via-else-draft-eq0+then-tables-ge64 w ↦ enter-not m d t c.requires (asked_no m d t c.requires (inr w.if-tables-ge64.true))
+      | then-draft-eq0-via-then-draft-eq0 w ↦ enter_not m d t c.requires (asked_no m d t c.requires (inl w.if-draft-eq0.true))
+      | then-draft-eq0-via-else-draft-eq0+then-tables-ge64 w ↦ enter_not m d t c.requires (asked_no m d t c.requires (inr w.if-tables-ge64.true))
     ]
 
-pub returns-in-err-entry : goal.returns-in-err-entry
-returns-in-err-entry g c =
+pub returns-in_err-entry : goal.returns-in_err-entry
+returns-in_err-entry g c =
     let m = g.A.Algebra.meaning in
     let d = c.args.draft.now in
     let t = c.args.tables.now in
-    let x = c.in-err-entry.field-0.0 in
+    let x = c.in_err-entry.field-0.0 in
     let some : 0 < d.height = let z = c.if-draft-eq0.false in omega arith in
     let q = err_from_is_err_and c.from-residual.result c.from-residual.ensures.1 in
-    rw (q.1, q.2) (enter-refused m d t c.requires c.check.new.self x (asked_yes m d t c.requires some c.if-tables-ge64.false)
-    (subst (λ (es : List Entry). DraftChecked m es d (Err x) c.check.new.self) c.known.ensures c.in-err-entry.ensures))
+    rw (q.1, q.2) (enter_refused m d t c.requires c.check.new.self x (asked_yes m d t c.requires some c.if-tables-ge64.false)
+    (subst (λ (es : List Entry). DraftChecked m es d (Err x) c.check.new.self) c.known.ensures c.in_err-entry.ensures))
 
 pub keep-requires : goal.keep-requires
 keep-requires g c =
@@ -35,7 +35,7 @@ keep-requires g c =
     let d = c.args.draft.now in
     let t = c.args.tables.now in
     let checked = subst (λ (es : List Entry). DraftChecked m es d c.check.result c.check.new.self) c.known.ensures c.check.ensures in
-    let fits = keep_fits m d t c.requires c.check.new.self c.check.result c.lines.result.now c.own-codes.result.now checked c.lines.ensures c.own-codes.ensures in
+    let fits = keep_fits m d t c.requires c.check.new.self c.check.result c.lines.result.now c.own_codes.result.now checked c.lines.ensures c.own_codes.ensures in
     (c.if-tables-ge64.false, (fits.0, fits.1))
 
 pub returns : goal.returns
@@ -43,8 +43,8 @@ returns g c =
     let m = g.A.Algebra.meaning in
     let d = c.args.draft.now in
     let t = c.args.tables.now in
-    let e = c.in-ok-entry.entry in
+    let e = c.in_ok-entry.entry in
     let some : 0 < d.height = let z = c.if-draft-eq0.false in omega arith in
-    enter-kept m d t c.requires c.check.new.self e c.keep.new.self (asked_yes m d t c.requires some c.if-tables-ge64.false) c.if-tables-ge64.false
-    (subst (λ (es : List Entry). DraftChecked m es d (Ok e) c.check.new.self) c.known.ensures c.in-ok-entry.ensures)
-    (c.keep.ensures ∙ (λ i. kept t e (c.lines.ensures i) (c.own-codes.ensures i)))
+    enter_kept m d t c.requires c.check.new.self e c.keep.new.self (asked_yes m d t c.requires some c.if-tables-ge64.false) c.if-tables-ge64.false
+    (subst (λ (es : List Entry). DraftChecked m es d (Ok e) c.check.new.self) c.known.ensures c.in_ok-entry.ensures)
+    (c.keep.ensures ∙ (λ i. kept t e (c.lines.ensures i) (c.own_codes.ensures i)))

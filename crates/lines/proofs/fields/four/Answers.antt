@@ -8,6 +8,6 @@ use Rattle.lines.proofs.fields.four.Goals as goal
 pub returns : goal.returns
 returns c =
     let xs = c.args.operands.now in
-    put_mid-paste 0 (length xs - 0) (replicate 4 0) c.copy-from-slice.new.self xs (length xs) c.copy-from-slice.ensures.after (omega arith) refl
+    put_mid-paste 0 (length xs - 0) (replicate 4 0) c.copy_from_slice.new.self xs (length xs) c.copy_from_slice.ensures.after (omega arith) refl
     ∙ paste_all (replicate 4 0) 0 xs (length xs) refl
     ∙ ap (λ (z : List ℕ). xs ++ z) (drop-replicate _ 4 0 ∙ ap (λ (k : ℕ). replicate (4 - k) 0) (zero-add (length xs)))

@@ -8,21 +8,21 @@ use Rattle.scripts.specs.Views.{text_seen}
 use Rattle.scripts.proofs.Places.{cut_split, differs}
 use Rattle.scripts.proofs.fields.value_of.Goals as goal
 
-pub returns-in-err-given : goal.returns-in-err-given
-returns-in-err-given c =
-    let cut = MatchOption-at_none _ _ c.in-err-given.was (cut_split 61 c.args.word.now c.split-once.result c.split-once.ensures.cases (lit< tt)) in
+pub returns-in_err-given : goal.returns-in_err-given
+returns-in_err-given c =
+    let cut = MatchOption-at_none _ _ c.in_err-given.was (cut_split 61 c.args.word.now c.split_once.result c.split_once.ensures.cases (lit< tt)) in
     ap (value_from c.args.name.now) cut ∙ sym (ap text_seen c.from-residual.ensures)
 
 pub returns-then-eq : goal.returns-then-eq
 returns-then-eq c =
-    let value = c.in-ok-given.value.now in
-    let given = c.in-ok-given.given.now in
-    let cut = MatchOption-at_some _ _ _ c.in-ok-given.was (cut_split 61 c.args.word.now c.split-once.result c.split-once.ensures.cases (lit< tt)) in
+    let value = c.in_ok-given.value.now in
+    let given = c.in_ok-given.given.now in
+    let cut = MatchOption-at_some _ _ _ c.in_ok-given.was (cut_split 61 c.args.word.now c.split_once.result c.split_once.ensures.cases (lit< tt)) in
     ap (value_from c.args.name.now) cut ∙ ap (λ v. cond v (Some value) None) ((bytes_eq-Decides given c.args.name.now).1 (c.eq.ensures.0 c.if-eq.true))
 
 pub returns-else-eq : goal.returns-else-eq
 returns-else-eq c =
-    let value = c.in-ok-given.value.now in
-    let given = c.in-ok-given.given.now in
-    let cut = MatchOption-at_some _ _ _ c.in-ok-given.was (cut_split 61 c.args.word.now c.split-once.result c.split-once.ensures.cases (lit< tt)) in
+    let value = c.in_ok-given.value.now in
+    let given = c.in_ok-given.given.now in
+    let cut = MatchOption-at_some _ _ _ c.in_ok-given.was (cut_split 61 c.args.word.now c.split_once.result c.split_once.ensures.cases (lit< tt)) in
     ap (value_from c.args.name.now) cut ∙ ap (λ v. cond v (Some value) None) (differs given c.args.name.now (not_from_Decides c.eq.result c.eq.ensures c.if-eq.false))

@@ -5,12 +5,12 @@ use Rattle.scripts.specs.Names.{bases, place_in}
 use Rattle.scripts.proofs.Places.{place_none}
 use Rattle.scripts.proofs.names.base_named.Goals as goal
 
-pub returns-in-default : goal.returns-in-default
-returns-in-default c =
+pub returns-in_default : goal.returns-in_default
+returns-in_default c =
     let word = c.args.word.now in
-    sym (ap (λ a. place_in (bases a) 0 word) c.in-Counts.is ∙ place_none (bases Counts) 0 word (c.in-default.not-count, (c.in-default.not_flag, tt)))
+    sym (ap (λ a. place_in (bases a) 0 word) c.in-Counts.is ∙ place_none (bases Counts) 0 word (c.in_default.not-count, (c.in_default.not_flag, tt)))
 
-pub returns-in-default-word : goal.returns-in-default-word
-returns-in-default-word c =
+pub returns-in_default-word : goal.returns-in_default-word
+returns-in_default-word c =
     let word = c.args.word.now in
-    sym (ap (λ a. place_in (bases a) 0 word) c.in-Amplitudes.is ∙ place_none (bases Amplitudes) 0 word (c.in-default-word.not-amplitude, (c.in-default-word.not_flag, tt)))
+    sym (ap (λ a. place_in (bases a) 0 word) c.in-Amplitudes.is ∙ place_none (bases Amplitudes) 0 word (c.in_default-word.not-amplitude, (c.in_default-word.not_flag, tt)))

@@ -4,5 +4,5 @@ use Rattle.scripts.specs.Names.{kinds}
 use Rattle.scripts.proofs.Places.{place_none}
 use Rattle.scripts.proofs.names.kind_named.Goals as goal
 
-pub returns-in-default : goal.returns-in-default
-returns-in-default c = sym (place_none kinds 0 c.args.word.now (c.in-default.not-literal, (c.in-default.not-parameter, (c.in-default.not-frame, (c.in-default.not-operator, (c.in-default.not_call, (c.in-default.not-fold, (c.in-default.not-append, (c.in-default.not-reverse, tt)))))))))
+pub returns-in_default : goal.returns-in_default
+returns-in_default c = sym (place_none kinds 0 c.args.word.now (c.in_default.not-literal, (c.in_default.not-parameter, (c.in_default.not-frame, (c.in_default.not-operator, (c.in_default.not_call, (c.in_default.not-fold, (c.in_default.not-append, (c.in_default.not-reverse, tt)))))))))

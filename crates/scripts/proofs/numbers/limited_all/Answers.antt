@@ -8,7 +8,7 @@ pub loop-number-preserved : goal.loop-number-preserved
 loop-number-preserved c =
     let xs = c.args.numbers.now in
     let i = c.loop-number.number-index in
-    c.in-ok-push.ensures.items
+    c.in_ok-push.ensures.items
     ∙ ap (λ l. l ++ (c.limited.result ∷ [])) c.loop-number.invariant
     ∙ ap (λ n. map limit (take i xs) ++ (n ∷ [])) c.limited.ensures
     ∙ sym (map_more limit xs i 0 (omega arith))

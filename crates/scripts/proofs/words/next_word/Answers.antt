@@ -3,11 +3,11 @@ use Rattle.std.proofs.Common.{◌<◌, [], length, sym, refl, ◌∙◌, arith, 
 use Rattle.std.proofs.lemmas.Bool.{eqb-false}
 use Rattle.traces.specs.Texts.{pieces}
 use Rattle.scripts.specs.Words.{blank}
-use Rattle.scripts.proofs.Cuts.{words-none, words_cut, words-empty, words-filled, cut_falls}
+use Rattle.scripts.proofs.Cuts.{words_none, words_cut, words_empty, words_filled, cut_falls}
 use Rattle.scripts.proofs.words.next_word.Goals as goal
 
-pub returns-then-not-is-empty : goal.returns-then-not-is-empty
-returns-then-not-is-empty c =
+pub returns-then-not-is_empty : goal.returns-then-not-is_empty
+returns-then-not-is_empty c =
     let h = c.in-Some.ensures.cases in
     let left = c.loop-piece.left.now in
     let piece = c.in-Some.piece.now in
@@ -15,7 +15,7 @@ returns-then-not-is-empty c =
     let f = h.2 blank (λ b. refl) in
     let less : length rest < length left = cut_falls blank left rest h.0 h.1 f h.7 in
     record {
-      words = c.loop-piece.invariant.1 ∙ words_cut left piece rest h.0 h.1 f h.3 h.4 ∙ words-filled piece (pieces blank rest) (sym c.if-not-is-empty.ensures);
+      words = c.loop-piece.invariant.1 ∙ words_cut left piece rest h.0 h.1 f h.3 h.4 ∙ words_filled piece (pieces blank rest) (sym c.if-not-is_empty.ensures);
       falls = omega (arith, less, c.loop-piece.invariant.2);
     }
 
@@ -33,22 +33,22 @@ loop-piece-preserved c =
     let f = h.2 blank (λ b. refl) in
     let less : length rest < length left = cut_falls blank left rest h.0 h.1 f h.7 in (
       search rules,
-      c.loop-piece.invariant.1 ∙ words_cut left piece rest h.0 h.1 f h.3 h.4 ∙ words-empty piece (pieces blank rest) (sym c.if-not-is-empty.ensures),
+      c.loop-piece.invariant.1 ∙ words_cut left piece rest h.0 h.1 f h.3 h.4 ∙ words_empty piece (pieces blank rest) (sym c.if-not-is_empty.ensures),
       omega (arith, less, c.loop-piece.invariant.2),
     )
 
-pub returns-then-is-empty : goal.returns-then-is-empty
-returns-then-is-empty c =
+pub returns-then-is_empty : goal.returns-then-is_empty
+returns-then-is_empty c =
     let left = c.loop-piece.left.now in
     record {
-      words = c.loop-piece.invariant.1 ∙ words-none left (c.in-default.ensures.cases blank (λ b. refl)) ∙ words-empty left [] (sym c.if-is-empty.ensures);
+      words = c.loop-piece.invariant.1 ∙ words_none left (c.in_default.ensures.cases blank (λ b. refl)) ∙ words_empty left [] (sym c.if-is_empty.ensures);
       falls = tt;
     }
 
-pub returns-else-is-empty : goal.returns-else-is-empty
-returns-else-is-empty c =
+pub returns-else-is_empty : goal.returns-else-is_empty
+returns-else-is_empty c =
     let left = c.loop-piece.left.now in
     record {
-      words = c.loop-piece.invariant.1 ∙ words-none left (c.in-default.ensures.cases blank (λ b. refl)) ∙ words-filled left [] (sym c.if-is-empty.ensures);
-      falls = omega (arith, eqb-false (length left) 0 (sym c.if-is-empty.ensures), c.loop-piece.invariant.2);
+      words = c.loop-piece.invariant.1 ∙ words_none left (c.in_default.ensures.cases blank (λ b. refl)) ∙ words_filled left [] (sym c.if-is_empty.ensures);
+      falls = omega (arith, eqb-false (length left) 0 (sym c.if-is_empty.ensures), c.loop-piece.invariant.2);
     }

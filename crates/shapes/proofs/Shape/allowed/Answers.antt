@@ -4,7 +4,7 @@ use Rattle.std.proofs.lemmas.List.{take_all}
 use Rattle.std.proofs.lemmas.Bool.{le-leb, lt-leb, and_from, and_right}
 use Rattle.remora.specs.Shapes.{extent}
 use Rattle.shapes.specs.Axes.{dims}
-use Rattle.shapes.proofs.Products.{extent_next, extent-front}
+use Rattle.shapes.proofs.Products.{extent_next, extent_front}
 use Rattle.shapes.proofs.Shape.allowed.Goals as goal
 
 pub loop-i-preserved : goal.loop-i-preserved
@@ -19,7 +19,7 @@ returns-then-product-gt65536 c =
     let xs = dims c.args.self in
     let here : c.loop-i.product * c.max.result ≡ extent (take (c.loop-i.i + 1) xs) =
     extent_next xs c.loop-i.i c.loop-i.product c.max.result (omega arith) c.loop-i.invariant.0 (omega (arith, c.max.ensures, c.nth.ensures)) in
-    let many : 65536 < extent xs = omega (arith, here, extent-front xs (c.loop-i.i + 1)) in
+    let many : 65536 < extent xs = omega (arith, here, extent_front xs (c.loop-i.i + 1)) in
     sym (and_right (leb (length xs) 4) (leb (extent xs) 65536) (lt-leb (extent xs) 65536 many))
 
 pub returns : goal.returns

@@ -2,14 +2,14 @@
 use Rattle.std.proofs.Common.{◌≡◌, true, false, sym, ◌∙◌, arith}
 use Rattle.remora.specs.Shapes.{begins}
 use Rattle.shapes.specs.Axes.{dims}
-use Rattle.shapes.proofs.Prefixes.{begins_yes, begins_no, begins-long, same_level}
+use Rattle.shapes.proofs.Prefixes.{begins_yes, begins_no, begins_long, same_level}
 use Rattle.shapes.proofs.Shape.begins.Goals as goal
 
 pub returns-then-n-rank : goal.returns-then-n-rank
 returns-then-n-rank c =
     let f = dims c.args.self in
     let g = dims c.args.other in
-    let no : begins f g ≡ false = begins-long f g (omega arith) in
+    let no : begins f g ≡ false = begins_long f g (omega arith) in
     record { exact = sym no; level = λ e. sym (same_level f g e ∙ no) }
 
 pub returns-then-nth : goal.returns-then-nth

@@ -12,6 +12,6 @@ returns c =
     let n : ℕ = c.rank-outer.result in
     let m : ℕ = c.rank.result in
     let first : c.front.result ≡ shape_of f = c.front.ensures.whole ∙ ap shape_of (take_all n f (omega arith)) in
-    let copied : c.copy-from-slice.new.self ≡ g =
-    c.copy-from-slice.ensures.after ∙ part_is c.args.cell 0 (n + m - n) (omega arith) ∙ take_all (n + m - n) g (omega arith) in
-    both_are c.front.result f g c.copy-from-slice.new.self n m first c.rank-outer.ensures.0 c.rank.ensures.0 copied
+    let copied : c.copy_from_slice.new.self ≡ g =
+    c.copy_from_slice.ensures.after ∙ part_is c.args.cell 0 (n + m - n) (omega arith) ∙ take_all (n + m - n) g (omega arith) in
+    both_are c.front.result f g c.copy_from_slice.new.self n m first c.rank-outer.ensures.0 c.rank.ensures.0 copied

@@ -10,7 +10,7 @@ pub returns : goal.returns
 returns c =
     let xs = c.args.axes.now in
     let whole = made_of xs _ (length xs) refl
-    (put_mid-paste 0 (length xs - 0) (replicate 4 0) c.copy-from-slice.new.self xs (length xs)
-    c.copy-from-slice.ensures.after (omega arith) refl
+    (put_mid-paste 0 (length xs - 0) (replicate 4 0) c.copy_from_slice.new.self xs (length xs)
+    c.copy_from_slice.ensures.after (omega arith) refl
     ∙ paste_all (replicate 4 0) 0 xs (length xs) refl) in
     record { axes = ap dims whole ∙ dims_shape_of xs; whole = whole }

@@ -6,8 +6,8 @@ use Rattle.shapes.specs.Axes.{dims}
 use Rattle.shapes.proofs.Products.{size_next, power_next}
 use Rattle.shapes.proofs.Shape.size.Goals as goal
 
-pub overflow-mul-product : goal.overflow-mul-product
-overflow-mul-product c =
+pub overflow_mul-product : goal.overflow_mul-product
+overflow_mul-product c =
     let few : 32 * c.loop-i.i ≤ 96 = omega arith in
     let one : c.loop-i.product ≤ 2 ^ 96 = omega (arith, c.loop-i.invariant.1, pow_mono few) in
     let two : c.nth.result ≤ 4294967295 = omega arith in

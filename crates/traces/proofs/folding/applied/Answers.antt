@@ -6,4 +6,4 @@ use Rattle.traces.proofs.folding.applied.Goals as goal
 
 pub returns : goal.returns
 unfolding applied
-returns c = c.count-in.ensures ∙ ap counted c.apply.ensures
+returns c = c.count_in.ensures ∙ ap counted c.apply.ensures

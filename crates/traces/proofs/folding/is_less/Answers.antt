@@ -9,4 +9,4 @@ use Rattle.traces.proofs.folding.is_less.Goals as goal
 
 pub returns : goal.returns
 unfolding applied
-returns c = c.flag-in.ensures ∙ ap flagged c.apply.ensures ∙ ap (λ o. flagged (applying counts 4 (samples sampled o))) c.pair.ensures
+returns c = c.flag_in.ensures ∙ ap flagged c.apply.ensures ∙ ap (λ o. flagged (applying counts 4 (samples sampled o))) c.pair.ensures

@@ -6,11 +6,11 @@ use Rattle.traces.proofs.folding.smallest.Goals as goal
 
 pub loop-code-preserved : goal.loop-code-preserved
 loop-code-preserved c =
-    let first = c.in-ok-first in
+    let first = c.in_ok-first in
     fold_next lesser first.first.now first.rest.now c.loop-code.code-index _ _ (omega arith) c.loop-code.invariant c.lesser-least.ensures
 
 pub returns : goal.returns
 returns c =
-    let first = c.in-ok-first in
+    let first = c.in_ok-first in
     ap Some (fold_end lesser first.first.now first.rest.now c.loop-code.code-index _ (omega arith) c.loop-code.invariant)
     ∙ ap smallest (sym first.ensures.cases.0)

@@ -7,8 +7,8 @@ use Rattle.traces.proofs.Cuts.{remaining, next_line}
 use Rattle.traces.proofs.Goings.{Through, through_none, through_more, through_all, refused}
 use Rattle.traces.proofs.reading.read_trace.Goals as goal
 
-pub overflow-add-number : goal.overflow-add-number
-overflow-add-number c = omega (arith, c.loop-line.invariant.2, ap split_parts_left c.into-iter-line-iterator.ensures.into-iter-gives ∙ c.split-line-items.ensures.remaining, c.well-formed)
+pub overflow_add-number : goal.overflow_add-number
+overflow_add-number c = omega (arith, c.loop-line.invariant.2, ap split_parts_left c.into-iter-line-iterator.ensures.into-iter-gives ∙ c.split-line-items.ensures.remaining, c.well-formed)
 
 pub loop-line-init : goal.loop-line-init
 loop-line-init c =
@@ -24,17 +24,17 @@ loop-line-preserved c =
     let next = c.next.new.self in
     let steps = c.in-Some.ensures.steps in
     let cut = next_line (split_pattern now) c.loop-line.invariant.1 (split_text now) c.in-Some.line.now (split_text next) (split_has_more now) (split_has_more next) steps.0 steps.1.1 in
-    let read = c.in-ok-read-line.ensures in
+    let read = c.in_ok-read_line.ensures in
     (through_more c.loop-line.invariant.0 _ _ cut _ read.0 read.1, steps.1.0 ∙ c.loop-line.invariant.1, omega (arith, c.loop-line.invariant.2, (c.in-Some.ensures.goes.on tt).2))
 
-pub returns-in-err-read-line : goal.returns-in-err-read-line
-returns-in-err-read-line c =
+pub returns-in_err-read_line : goal.returns-in_err-read_line
+returns-in_err-read_line c =
     let now = c.loop-line.line-iterator in
     let next = c.next.new.self in
     let steps = c.in-Some.ensures.steps in
     let cut = next_line (split_pattern now) c.loop-line.invariant.1 (split_text now) c.in-Some.line.now (split_text next) (split_has_more now) (split_has_more next) steps.0 steps.1.1 in
     let p = err_from_is_err_and c.from-residual.result c.from-residual.ensures.1 in
-    rw (p.1, p.2) (refused c.loop-line.invariant.0 _ _ cut _ c.in-err-read-line.ensures)
+    rw (p.1, p.2) (refused c.loop-line.invariant.0 _ _ cut _ c.in_err-read_line.ensures)
 
 pub returns : goal.returns
 returns c =

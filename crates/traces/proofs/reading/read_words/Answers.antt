@@ -22,17 +22,17 @@ loop-word-preserved c =
     let next = c.next.new.self in
     let steps = c.in-Some.ensures.steps in
     let cut = next_words (split_pattern now) c.loop-word.invariant.1 (split_text now) c.in-Some.word.now (split_text next) (split_has_more now) (split_has_more next) steps.0 steps.1.1 in
-    let read = c.in-ok-read-word.ensures in
+    let read = c.in_ok-read_word.ensures in
     (gone_more c.loop-word.invariant.0 _ _ cut _ read.0 read.1, steps.1.0 parts c.loop-word.invariant.1)
 
-pub returns-in-err-read-word : goal.returns-in-err-read-word
-returns-in-err-read-word c =
+pub returns-in_err-read_word : goal.returns-in_err-read_word
+returns-in_err-read_word c =
     let now = c.loop-word.word-iterator in
     let next = c.next.new.self in
     let steps = c.in-Some.ensures.steps in
     let cut = next_words (split_pattern now) c.loop-word.invariant.1 (split_text now) c.in-Some.word.now (split_text next) (split_has_more now) (split_has_more next) steps.0 steps.1.1 in
     let p = err_from_is_err_and c.from-residual.result c.from-residual.ensures.1 in
-    rw (p.1, p.2) (blamed c.loop-word.invariant.0 _ _ cut c.args.number _ c.in-err-read-word.ensures)
+    rw (p.1, p.2) (blamed c.loop-word.invariant.0 _ _ cut c.args.number _ c.in_err-read_word.ensures)
 
 pub returns : goal.returns
 returns c =

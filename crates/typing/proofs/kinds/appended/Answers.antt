@@ -7,7 +7,7 @@ use Rattle.typing.specs.Typings.{types_of}
 use Rattle.typing.specs.Plans.{small}
 use Rattle.typing.specs.declared.found.Items.{Items}
 use Rattle.typing.specs.Plans.{Applied}
-use Rattle.typing.proofs.Ruling.{applied-at, applied-small}
+use Rattle.typing.proofs.Ruling.{applied_at, applied_small}
 use Rattle.typing.proofs.kinds.appended.Goals as goal
 
 pub returns : goal.returns
@@ -17,13 +17,13 @@ returns c =
     let s = dims c.args.first.shape in
     let b = c.args.first.base in
     let k = c.args.more in
-    let x = c.items-of-items.result in
+    let x = c.items_of-items.result in
     let os = c.args.operands.now in
-    let x_is = c.items-of-items.ensures in
+    let x_is = c.items_of-items.ensures in
     let number : x.number ≡ get_or s 0 0 = ap (λ (v : Items). v.number) x_is in
-    let sum = c.saturating-add.result in
-    let sum_is : sum ≡ small (get_or s 0 0 + k) = c.saturating-add.ensures ∙ ap (λ (v : ℕ). small (v + k)) number in
+    let sum = c.saturating_add.result in
+    let sum_is : sum ≡ small (get_or s 0 0 + k) = c.saturating_add.ensures ∙ ap (λ (v : ℕ). small (v + k)) number in
     subst (λ (v : Items). Applied ts (w ∷ shaped b (k ∷ drop 1 s) ∷ []) os (shaped b ((get_or s 0 0 + k) ∷ drop 1 s)) v c.args.line c.applied.result) x_is
-    (applied-small ts (w ∷ shaped b (k ∷ drop 1 s) ∷ []) os (drop 1 s) b (get_or s 0 0 + k) sum x c.args.line c.applied.result sum_is
-    (applied-at ts (w ∷ shaped b (dims c.led.result) ∷ []) (w ∷ shaped b (k ∷ drop 1 s) ∷ []) os os (shaped b (dims c.led-2.result)) (shaped b (sum ∷ drop 1 s)) x c.args.line c.applied.result
+    (applied_small ts (w ∷ shaped b (k ∷ drop 1 s) ∷ []) os (drop 1 s) b (get_or s 0 0 + k) sum x c.args.line c.applied.result sum_is
+    (applied_at ts (w ∷ shaped b (dims c.led.result) ∷ []) (w ∷ shaped b (k ∷ drop 1 s) ∷ []) os os (shaped b (dims c.led-2.result)) (shaped b (sum ∷ drop 1 s)) x c.args.line c.applied.result
     (ap (λ (v : List ℕ). w ∷ shaped b v ∷ []) c.led.ensures) refl (ap (shaped b) c.led-2.ensures) c.applied.ensures))

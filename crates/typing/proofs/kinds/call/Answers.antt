@@ -4,7 +4,7 @@ use Rattle.remora.specs.Formulas as theory
 use Rattle.lines.specs.Lines.{line_with}
 use Rattle.typing.specs.Typings.{types_of}
 use Rattle.typing.specs.Plans.{known_in, usable_in}
-use Rattle.typing.proofs.Ruling.{few_operands, call-refused, call_ruled}
+use Rattle.typing.proofs.Ruling.{few_operands, call_refused, call_ruled}
 use Rattle.typing.proofs.Asking.{types_length}
 use Rattle.typing.proofs.kinds.call.Goals as goal
 
@@ -14,7 +14,7 @@ returns-then-operands-wanted c = λ m.
     let f = c.args.fields.now in
     let es = x.formulas.now in
     let ws-is : types_of c.parameters-wanted.result.now ≡ (known_in es f.function).parameters = ap types_of c.parameters-wanted.ensures ∙ ap (λ (e : theory.Entry). e.parameters) c.in-Some.ensures.1 in
-    call-refused m (length es) (known_in es) (usable_in es) (types_of x.parameters.now) (types_of x.types.now) (line_with f []) c.args.line
+    call_refused m (length es) (known_in es) (usable_in es) (types_of x.parameters.now) (types_of x.types.now) (line_with f []) c.args.line
     (λ e. c.if-operands-wanted.true (ap length c.operands-operands.ensures ∙ e ∙ sym (ap length ws-is) ∙ types_length c.parameters-wanted.result.now))
 
 pub returns : goal.returns

@@ -25,4 +25,4 @@ returns g c =
     let same = said.2 in
     fold_ruled m (length es) (known_in es) (usable_in es) ps ts (number_for f.kind) f.base f.function (dims f.shape) os [] c.operands-operands.result.now (shaped s.result (dims f.shape)) s.unit c.args.line c.folded.result
     (ap (λ (o : Operator). shaped o.result (dims f.shape)) same) (ap (λ (o : Operator). o.unit) same) c.operands-operands.ensures c.requires.earlier said.0
-    (sym (ap (λ (o : Operator). foldable o.operands o.result) same) ∙ sym c.if-not-is-foldable.ensures) c.requires.one (some_axis (dims f.shape) (λ e. c.if-rank-eq0.false (omega arith))) c.folded.ensures
+    (sym (ap (λ (o : Operator). foldable o.operands o.result) same) ∙ sym c.if-not-is_foldable.ensures) c.requires.one (some_axis (dims f.shape) (λ e. c.if-rank-eq0.false (omega arith))) c.folded.ensures

@@ -6,7 +6,7 @@ use Rattle.typing.specs.Typings.{types_of}
 use Rattle.typing.specs.Plans.{known_in, usable_in}
 use Rattle.std.proofs.lemmas.List.{length-take-le}
 use Rattle.remora.specs.Algebras.{Operator}
-use Rattle.typing.proofs.Ruling.{few_operands, scalars-take, operator_ruled}
+use Rattle.typing.proofs.Ruling.{few_operands, scalars_take, operator_ruled}
 use Rattle.typing.proofs.kinds.operator.Goals as goal
 
 pub returns : goal.returns
@@ -27,8 +27,8 @@ returns g c =
     let long : length (take s.count s.operands) ≡ s.count = length-take-le s.count s.operands (omega arith) in
     let count : length (take f.count f.operands) ≡ length (m.operator f.function).operands = sym (ap length os-is) ∙ c.if-operands-count.false ∙ sym long ∙ ap length bases in
     let all : s.count - 0 ≡ s.count = omega arith in
-    operator_ruled m (length es) (known_in es) (usable_in es) ps ts (line_with f []) c.operands-operands.result.now (types_of (take (s.count - 0) c.three-scalars-all.result)) _ c.args.line c.applied.result
-    (ap (λ (k : ℕ). types_of (take k c.three-scalars-all.result)) all ∙ scalars-take s.count s.operands c.three-scalars-all.result c.three-scalars-all.ensures ∙ ap scalars bases)
+    operator_ruled m (length es) (known_in es) (usable_in es) ps ts (line_with f []) c.operands-operands.result.now (types_of (take (s.count - 0) c.three_scalars-all.result)) _ c.args.line c.applied.result
+    (ap (λ (k : ℕ). types_of (take k c.three_scalars-all.result)) all ∙ scalars_take s.count s.operands c.three_scalars-all.result c.three_scalars-all.ensures ∙ ap scalars bases)
     os-is
     (c.scalar-cell.ensures ∙ ap (λ (o : Operator). shaped o.result []) said.2)
     few c.requires said.0 count c.applied.ensures

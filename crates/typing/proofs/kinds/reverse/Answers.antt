@@ -21,8 +21,8 @@ returns c = λ m.
     let ps = types_of x.parameters.now in
     let os = take f.count f.operands in
     let os-is = c.operands-operands.ensures in
-    let w : theory.ArrayType = shaped c.type-at-given.result.base (dims f.shape) in
-    let base : c.type-at-given.result.base ≡ (type_at ts (get_or os 0 0)).base = ap (λ (t : theory.ArrayType). t.base) c.type-at-given.ensures ∙ ap (λ (v : List ℕ). (type_at ts (get_or v 0 0)).base) os-is in
+    let w : theory.ArrayType = shaped c.type_at-given.result.base (dims f.shape) in
+    let base : c.type_at-given.result.base ≡ (type_at ts (get_or os 0 0)).base = ap (λ (t : theory.ArrayType). t.base) c.type_at-given.ensures ∙ ap (λ (v : List ℕ). (type_at ts (get_or v 0 0)).base) os-is in
     reverse_ruled m (length es) (known_in es) (usable_in es) ps ts (number_for f.kind) f.base f.function (dims f.shape) os [] c.operands-operands.result.now w c.args.line c.applied.result
     (ap (λ (b : ℕ). shaped b (dims f.shape)) base) os-is c.requires.earlier c.requires.one c.requires.axis
-    (subst (λ (v : Items). Applied ts (w ∷ []) c.operands-operands.result.now w v c.args.line c.applied.result) c.items-of-items.ensures c.applied.ensures)
+    (subst (λ (v : Items). Applied ts (w ∷ []) c.operands-operands.result.now w v c.args.line c.applied.result) c.items_of-items.ensures c.applied.ensures)

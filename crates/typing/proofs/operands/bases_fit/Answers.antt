@@ -3,15 +3,15 @@ use Rattle.std.proofs.Common.{eqb, sym, ◌∙◌, arith}
 use Rattle.typing.proofs.Asking.{fits_yes, fits_no, fits_end}
 use Rattle.typing.proofs.operands.bases_fit.Goals as goal
 
-pub returns-then-not-has-base : goal.returns-then-not-has-base
-returns-then-not-has-base c =
-    sym (c.loop-i.invariant ∙ fits_no (λ t w. eqb t.base w.base) c.args.types.now c.args.wanted.now c.args.operands.now c.loop-i.i c.type-at-given.result
-    (omega arith) (omega arith) c.type-at-given.ensures (sym c.has-base.ensures ∙ c.if-not-has-base.true))
+pub returns-then-not-has_base : goal.returns-then-not-has_base
+returns-then-not-has_base c =
+    sym (c.loop-i.invariant ∙ fits_no (λ t w. eqb t.base w.base) c.args.types.now c.args.wanted.now c.args.operands.now c.loop-i.i c.type_at-given.result
+    (omega arith) (omega arith) c.type_at-given.ensures (sym c.has_base.ensures ∙ c.if-not-has_base.true))
 
 pub loop-i-preserved : goal.loop-i-preserved
 loop-i-preserved c =
-    c.loop-i.invariant ∙ fits_yes (λ t w. eqb t.base w.base) c.args.types.now c.args.wanted.now c.args.operands.now c.loop-i.i c.type-at-given.result
-    (omega arith) (omega arith) c.type-at-given.ensures (sym c.has-base.ensures ∙ c.if-not-has-base.false)
+    c.loop-i.invariant ∙ fits_yes (λ t w. eqb t.base w.base) c.args.types.now c.args.wanted.now c.args.operands.now c.loop-i.i c.type_at-given.result
+    (omega arith) (omega arith) c.type_at-given.ensures (sym c.has_base.ensures ∙ c.if-not-has_base.false)
 
 pub returns : goal.returns
 returns c = sym (c.loop-i.invariant ∙ fits_end (λ t w. eqb t.base w.base) c.args.types.now c.args.wanted.now c.args.operands.now c.loop-i.i (omega arith))

@@ -14,20 +14,20 @@ returns-then-count-gt4 g c =
     let ts = c.args.given.now in
     and_left (leb (length (types_given ts)) 4) (known_types g.A.Algebra.meaning (types_given ts)) (lt-leb (length (types_given ts)) 4 (omega (arith, length-map ts type_of)))
 
-pub returns-in-err-all : goal.returns-in-err-all
-returns-in-err-all g c =
+pub returns-in_err-all : goal.returns-in_err-all
+returns-in_err-all g c =
     let ts = c.args.given.now in
     let m = g.A.Algebra.meaning in
     subst (KnownTypes m (types_given ts)) (sym c.from-residual.ensures)
-    (and_right (leb (length (types_given ts)) 4) (known_types m (types_given ts)) (c.loop-i.invariant.0 ∙ known_no m ts c.loop-i.i _ (omega arith) c.in-err-all.ensures))
+    (and_right (leb (length (types_given ts)) 4) (known_types m (types_given ts)) (c.loop-i.invariant.0 ∙ known_no m ts c.loop-i.i _ (omega arith) c.in_err-all.ensures))
 
 pub loop-i-preserved : goal.loop-i-preserved
 loop-i-preserved g c =
     let ts = c.args.given.now in
     let m = g.A.Algebra.meaning in
-    let t = c.in-ok-all.field-0 in (
-      c.loop-i.invariant.0 ∙ known_yes m ts c.loop-i.i _ (omega arith) t c.in-ok-all.ensures,
-      kept_more m ts c.loop-i.i _ (omega arith) c.loop-i.all t (omega arith) c.loop-i.invariant.1 c.in-ok-all.ensures,
+    let t = c.in_ok-all.field-0 in (
+      c.loop-i.invariant.0 ∙ known_yes m ts c.loop-i.i _ (omega arith) t c.in_ok-all.ensures,
+      kept_more m ts c.loop-i.i _ (omega arith) c.loop-i.all t (omega arith) c.loop-i.invariant.1 c.in_ok-all.ensures,
       length-set c.loop-i.all c.loop-i.i t ∙ c.loop-i.invariant.2,
     )
 

@@ -8,8 +8,8 @@ returns c =
     let t = c.args.self.now in
     let rs = c.args.rows.now in
     let cs = c.args.codes.now in
-    let rows = pasted_is t.rows c.copy-from-slice.new.self rs t.height c.copy-from-slice.ensures.after in
-    let codes = pasted_is t.codes c.copy-from-slice-2.new.self cs t.width c.copy-from-slice-2.ensures.after in
+    let rows = pasted_is t.rows c.copy_from_slice.new.self rs t.height c.copy_from_slice.ensures.after in
+    let codes = pasted_is t.codes c.copy_from_slice-2.new.self cs t.width c.copy_from_slice-2.ensures.after in
     λ i. record {
       entries = set t.entries t.count c.args.entry;
       extents = set t.extents t.count (record { first = t.height; rows = length rs; start = t.width; codes = length cs });

@@ -4,7 +4,7 @@ use Rattle.std.proofs.lemmas.Bool.{lt-ltb, le-ltb}
 use Rattle.lines.specs.Lines.{types_given}
 use Rattle.formulas.specs.declared.drafts.Draft.{Draft}
 use Rattle.formulas.specs.Sound.{sound}
-use Rattle.formulas.proofs.Sounding.{begun-sound}
+use Rattle.formulas.proofs.Sounding.{begun_sound}
 use Rattle.collection.proofs.Serving.{open_many, open_unknown, open_done}
 use Rattle.collection.proofs.holdings.Collection.open.Goals as goal
 
@@ -13,17 +13,17 @@ returns-then-self-ge1000000 g c =
     let s = c.args.self.now in
     open_many g.A.Algebra.meaning g.met.A.Algebra.lawful.formed s.serials s.draft s.tables (types_given c.args.parameters.now) (le-ltb s.serials 1000000 c.if-self-ge1000000.true)
 
-pub returns-in-default : goal.returns-in-default
-returns-in-default g c =
+pub returns-in_default : goal.returns-in_default
+returns-in_default g c =
     let s = c.args.self.now in
     open_unknown g.A.Algebra.meaning g.met.A.Algebra.lawful.formed s.serials s.draft s.tables (types_given c.args.parameters.now)
-    (lt-ltb s.serials 1000000 c.if-self-ge1000000.false) c.in-default.ensures
+    (lt-ltb s.serials 1000000 c.if-self-ge1000000.false) c.in_default.ensures
 
-pub invariant-of-self : goal.invariant-of-self
-invariant-of-self g c =
+pub invariant_of-self : goal.invariant_of-self
+invariant_of-self g c =
     let s = c.args.self.now in
     let d = s.draft in
-    (ap (λ (e : Draft). sound e s.tables) c.begin.ensures ∙ begun-sound d s.tables s.serials c.in-Some.kept.all c.in-Some.kept.count s.sound, tt)
+    (ap (λ (e : Draft). sound e s.tables) c.begin.ensures ∙ begun_sound d s.tables s.serials c.in-Some.kept.all c.in-Some.kept.count s.sound, tt)
 
 pub returns : goal.returns
 returns g c =

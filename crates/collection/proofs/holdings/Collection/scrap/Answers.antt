@@ -2,8 +2,8 @@
 use Rattle.std.proofs.Common.{sym, ap, ◌∙◌}
 use Rattle.formulas.specs.declared.drafts.Draft.{Draft}
 use Rattle.formulas.specs.Sound.{sound}
-use Rattle.formulas.proofs.Sounding.{dropped-sound}
-use Rattle.collection.proofs.Serving.{scrap_wrong, scrap-done}
+use Rattle.formulas.proofs.Sounding.{dropped_sound}
+use Rattle.collection.proofs.Serving.{scrap_wrong, scrap_done}
 use Rattle.collection.proofs.holdings.Collection.scrap.Goals as goal
 
 pub returns-then-not-has : goal.returns-then-not-has
@@ -11,13 +11,13 @@ returns-then-not-has g c =
     let s = c.args.self.now in
     scrap_wrong g.A.Algebra.meaning g.met.A.Algebra.lawful.formed s.serials s.draft s.tables c.args.slip.serial (sym c.has.ensures ∙ c.if-not-has.true)
 
-pub invariant-of-self : goal.invariant-of-self
-invariant-of-self g c =
+pub invariant_of-self : goal.invariant_of-self
+invariant_of-self g c =
     let s = c.args.self.now in
     let d = s.draft in
-    (ap (λ (e : Draft). sound e s.tables) c.drop-lines.ensures ∙ dropped-sound d s.tables s.sound, tt)
+    (ap (λ (e : Draft). sound e s.tables) c.drop_lines.ensures ∙ dropped_sound d s.tables s.sound, tt)
 
 pub returns : goal.returns
 returns g c =
     let s = c.args.self.now in
-    scrap-done g.A.Algebra.meaning g.met.A.Algebra.lawful.formed s.serials s.draft s.tables c.args.slip.serial c.drop-lines.new.self (sym c.has.ensures ∙ c.if-not-has.false) c.drop-lines.ensures
+    scrap_done g.A.Algebra.meaning g.met.A.Algebra.lawful.formed s.serials s.draft s.tables c.args.slip.serial c.drop_lines.new.self (sym c.has.ensures ∙ c.if-not-has.false) c.drop_lines.ensures
