@@ -20,7 +20,7 @@ fn type_row<A: Algebra>(
     line: u32,
     place: u32,
 ) -> Result<(), Refusal>
-    ensures { RowTyped meaning context.now.formulas.now (types_of context.now.parameters.now) (types_of context.now.types.now) codes.now line place row.old result row.new }
+    ensures { RowTyped A.meaning context.now.formulas.now (types_of context.now.parameters.now) (types_of context.now.types.now) codes.now line place row.old result row.new }
 {
     let given = row.given;
     let own = part(codes, given.start, given.length);
@@ -40,7 +40,7 @@ fn type_rows<'a, A: Algebra>(
     forecast: &mut Forecast,
 ) -> Result<(), Refusal>
     requires { length rows.old ≤ 64 }
-    ensures { CheckedAs meaning formulas.now (types_of parameters.now) codes.now rows.old result rows.new forecast.new }
+    ensures { CheckedAs A.meaning formulas.now (types_of parameters.now) codes.now rows.old result rows.new forecast.new }
 {
     let mut types = [ArrayType::NOTHING; 64];
     *forecast = Forecast::none();
@@ -90,7 +90,7 @@ impl Draft {
     /// Questions 7 to 14: what is known of the formula that the draft is to become; what typing finds is written to its lines.
     pub fn check<A: Algebra>(&mut self, formulas: &[Entry]) -> Result<Entry, Refusal>
         requires { (0 < self.old.height) × (self.old.height ≤ 64) }
-        ensures { DraftChecked meaning formulas.now self.old result self.new }
+        ensures { DraftChecked A.meaning formulas.now self.old result self.new }
     {
         let height = self.height as usize;
         let all = self.all;

@@ -16,7 +16,7 @@ pub struct Parameters {
 
 /// The type of a parameter, if its base type is known and its shape allowed.
 fn known_type<A: Algebra>(given: &ParameterType) -> Option<ArrayType>
-    ensures { KnownType meaning (type_of given.now) result }
+    ensures { KnownType A.meaning (type_of given.now) result }
 {
     let bases = A::BASES.get();
     let shape = Shape::new(given.shape)?;
@@ -33,7 +33,7 @@ fn known_type<A: Algebra>(given: &ParameterType) -> Option<ArrayType>
 impl Parameters {
     /// Question 2: the types of at most four parameters, each with a known base type and an allowed shape.
     pub fn of<A: Algebra>(given: &[ParameterType]) -> Option<Parameters>
-        ensures { KnownTypes meaning (types_given given.now) result }
+        ensures { KnownTypes A.meaning (types_given given.now) result }
     {
         let count = given.len();
         if count > 4 {

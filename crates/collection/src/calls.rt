@@ -17,7 +17,7 @@ use typing::Entry;
 impl<A: Algebra> Collection<A> {
     /// A new collection: no draft and no formula.
     pub fn new() -> Collection<A>
-        ensures { Begins meaning (state_of result) }
+        ensures { Begins A.meaning (state_of result) }
     {
         Collection {
             serials: 0,
@@ -29,7 +29,7 @@ impl<A: Algebra> Collection<A> {
 
     /// Opens a draft with these parameters, in place of any earlier one, and answers its slip.
     pub fn open(&mut self, parameters: &[ParameterType]) -> Result<Slip, Refusal>
-        ensures { Serves meaning (state_of self.old) (open' (types_given parameters.now)) (slipped result) (state_of self.new) }
+        ensures { Serves A.meaning (state_of self.old) (open' (types_given parameters.now)) (slipped result) (state_of self.new) }
     {
         if self.serials >= 1_000_000 {
             return Err(Refusal::TooManyDrafts);
@@ -54,7 +54,7 @@ impl<A: Algebra> Collection<A> {
 
     /// Adds a line to the draft and answers its number.
     pub fn line(&mut self, slip: &Slip, line: &Line) -> Result<u32, Refusal>
-        ensures { Serves meaning (state_of self.old) (lineCall slip.now.serial (line_of line.now)) (numbered result) (state_of self.new) }
+        ensures { Serves A.meaning (state_of self.old) (lineCall slip.now.serial (line_of line.now)) (numbered result) (state_of self.new) }
     {
         if !self.draft.has(slip.serial) {
             return Err(Refusal::WrongSlip);
@@ -72,7 +72,7 @@ impl<A: Algebra> Collection<A> {
 
     /// Gives the draft the next number, which is answered. A refusal from question 6 on drops the draft; the slip is used up in any case.
     pub fn enter(&mut self, slip: Slip) -> Result<u32, Refusal>
-        ensures { Serves meaning (state_of self.old) (enterCall slip.serial) (numbered result) (state_of self.new) }
+        ensures { Serves A.meaning (state_of self.old) (enterCall slip.serial) (numbered result) (state_of self.new) }
     {
         let Slip { serial } = slip;
         if !self.draft.has(serial) {
@@ -85,7 +85,7 @@ impl<A: Algebra> Collection<A> {
 
     /// Drops the draft. The slip is used up in any case.
     pub fn scrap(&mut self, slip: Slip) -> Result<(), Refusal>
-        ensures { Serves meaning (state_of self.old) (scrapCall slip.serial) (finished result) (state_of self.new) }
+        ensures { Serves A.meaning (state_of self.old) (scrapCall slip.serial) (finished result) (state_of self.new) }
     {
         let Slip { serial: held } = slip;
         if !self.draft.has(held) {
@@ -111,7 +111,7 @@ impl<A: Algebra> Collection<A> {
 
     /// Marks a number as withdrawn; formulas that call it go on working.
     pub fn withdraw(&mut self, number: u32) -> Result<(), Refusal>
-        ensures { Serves meaning (state_of self.old) (withdrawCall number) (finished result) (state_of self.new) }
+        ensures { Serves A.meaning (state_of self.old) (withdrawCall number) (finished result) (state_of self.new) }
     {
         if !self.in_use(number) {
             return Err(Refusal::NotInUse);
@@ -122,7 +122,7 @@ impl<A: Algebra> Collection<A> {
 
     /// Writes what is known of a number to the lent record.
     pub fn entry(&self, number: u32, out: &mut Entry) -> Result<(), Refusal>
-        ensures told { Serves meaning (state_of self.now) (entryCall number) (stated result out.new) (state_of self.now) }
+        ensures told { Serves A.meaning (state_of self.now) (entryCall number) (stated result out.new) (state_of self.now) }
         ensures lent { Lent result out.old out.new }
     {
         if !self.is_given(number) {

@@ -10,7 +10,7 @@ use lines::Refusal;
 /// Questions 6 to 14: the draft becomes the formula with the next number, which is answered. Dropping the draft is left to the caller.
 pub(crate) fn entered<A: Algebra>(draft: &mut Draft, tables: &mut Tables) -> Result<u32, Refusal>
     requires { sound draft.old tables.old ≡ true }
-    ensures { Entered meaning draft.old tables.old result draft.new tables.new }
+    ensures { Entered A.meaning draft.old tables.old result draft.new tables.new }
 {
     if draft.height == 0 || tables.count >= 64 {
         return Err(Refusal::NotEnterable);

@@ -8,7 +8,7 @@ use std::{env, fmt, fs, io};
 use traces::{Summary, TraceError, read_trace};
 
 /// Why there is no summary.
-#[derive(Drop)]
+#[derive(Debug, Drop)]
 enum Failure {
     /// The text could not be read, or the summary not be written.
     System(io::Error),

@@ -10,7 +10,7 @@ use shapes::{ArrayType, Shape};
 
 /// Whether the base type has this code.
 fn has_code<A: Algebra>(base: u32, code: u64) -> bool
-    ensures { result ≡ meaning.holds base code }
+    ensures { result ≡ A.meaning.holds base code }
 {
     if base > 255 {
         return false;
@@ -20,7 +20,7 @@ fn has_code<A: Algebra>(base: u32, code: u64) -> bool
 
 /// Whether the base type has each of the codes.
 pub fn has_codes<A: Algebra>(base: u32, codes: &[u64]) -> bool
-    ensures { result ≡ in_set meaning.holds base codes.now }
+    ensures { result ≡ in_set A.meaning.holds base codes.now }
 {
     for code in codes {
         if !has_code::<A>(base, *code) {

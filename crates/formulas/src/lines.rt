@@ -84,7 +84,7 @@ pub fn shape_allowed(axes: &[u32]) -> bool
 /// Whether the fields of a line are in order: there is such a kind and such a base type, the shape may be, there are no more than
 /// four operands, and what the kind does not use is left empty.
 pub fn in_order<A: Algebra>(line: &Line) -> bool
-    ensures { result ≡ in_order meaning (line_of line.now) }
+    ensures { result ≡ in_order A.meaning (line_of line.now) }
 {
     let bases = A::BASES.get();
     match Kind::of(line.kind) {

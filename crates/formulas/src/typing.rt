@@ -80,7 +80,7 @@ pub fn literal<A: Algebra>(
     codes: &[u64],
     line: u32,
 ) -> Result<ArrayType, Refusal>
-    ensures { LiteralJudged meaning base (dims shape) codes.now line result }
+    ensures { LiteralJudged A.meaning base (dims shape) codes.now line result }
 {
     let size = shape.size();
     if codes.len() as u128 != size || !has_codes::<A>(base, codes) {

@@ -42,7 +42,7 @@ impl Fields {
     /// Question 5: the fields of a line, if they are in order: there is such a kind and such a base type, the shape is allowed, there
     /// are no more than four operands, and what the kind does not name is 0 or empty.
     pub fn of<A: Algebra>(line: &Line) -> Option<Fields>
-        ensures { InOrder meaning (line_of line.now) result }
+        ensures { InOrder A.meaning (line_of line.now) result }
     {
         let bases = A::BASES.get();
         let kind = Kind::of(line.kind)?;

@@ -24,7 +24,7 @@ pub(crate) fn literal<A: Algebra>(
     codes: &[u64],
     line: u32,
 ) -> Result<Typed, Refusal>
-    ensures { (x : InContext) → RuledAs meaning x a_literal (line_with fields.now codes.now) line result }
+    ensures { (x : InContext) → RuledAs A.meaning x a_literal (line_with fields.now codes.now) line result }
 {
     let shape = fields.shape;
     let size = shape.size();
@@ -95,7 +95,7 @@ pub(crate) fn framing(context: &Context, fields: &Fields, line: u32) -> Result<T
 
 /// The signature of an operator, if there is one of this number.
 fn described<A: Algebra>(operator: u32) -> Option<Signature>
-    ensures { Described meaning operator result }
+    ensures { Described A.meaning operator result }
 {
     if operator > 255 {
         return None;
@@ -127,7 +127,7 @@ pub(crate) fn operator<A: Algebra>(
     line: u32,
 ) -> Result<Typed, Refusal>
     requires { earlier (types_of context.now.types.now) (line_with fields.now []).operands ≡ true }
-    ensures { RuledAs meaning context.now an_operator (line_with fields.now []) line result }
+    ensures { RuledAs A.meaning context.now an_operator (line_with fields.now []) line result }
 {
     let operands = fields.operands();
     let Some(signature) = described::<A>(fields.function) else {
@@ -237,7 +237,7 @@ pub(crate) fn fold<A: Algebra>(
 ) -> Result<Typed, Refusal>
     requires earlier { earlier (types_of context.now.types.now) (line_with fields.now []).operands ≡ true }
     requires one { length (line_with fields.now []).operands ≡ 1 }
-    ensures { RuledAs meaning context.now a_fold (line_with fields.now []) line result }
+    ensures { RuledAs A.meaning context.now a_fold (line_with fields.now []) line result }
 {
     let operands = fields.operands();
     let shape = fields.shape;

@@ -16,7 +16,7 @@ pub fn type_line<A: Algebra>(
     line: u32,
     out: &mut Typed,
 ) -> Result<(), Refusal>
-    ensures { TypedIn meaning context.now (line_with fields.now codes.now) line out.old result out.new }
+    ensures { TypedIn A.meaning context.now (line_with fields.now codes.now) line out.old result out.new }
 {
     let operands = fields.operands();
     let count = operands.len();

@@ -13,7 +13,7 @@ loop-k-init g c =
 
 pub returns-in_err-type_row : goal.returns-in_err-type_row
 returns-in_err-type_row g c =
-    let q = err_from_is_err_and c.from-residual.result c.from-residual.ensures.1 in
+    let q = err_from_is_err_and c.from_residual.result c.from_residual.ensures.1 in
     let k = c.loop-k.k in
     let own : take (k - 0) c.loop-k.types ≡ take k c.loop-k.types = ap (λ (n : ℕ). take n c.loop-k.types) (omega arith) in
     rw (q.1, q.2) (progress_stop g.A.Algebra.meaning c.args.formulas.now (types_of c.args.parameters.now) c.args.codes.now c.args.rows.now k c.loop-k.types c.loop-k.rows c.loop-k.forecast

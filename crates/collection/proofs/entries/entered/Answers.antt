@@ -25,7 +25,7 @@ returns-in_err-entry g c =
     let t = c.args.tables.now in
     let x = c.in_err-entry.field-0.0 in
     let some : 0 < d.height = let z = c.if-draft-eq0.false in omega arith in
-    let q = err_from_is_err_and c.from-residual.result c.from-residual.ensures.1 in
+    let q = err_from_is_err_and c.from_residual.result c.from_residual.ensures.1 in
     rw (q.1, q.2) (enter_refused m d t c.requires c.check.new.self x (asked_yes m d t c.requires some c.if-tables-ge64.false)
     (subst (λ (es : List Entry). DraftChecked m es d (Err x) c.check.new.self) c.known.ensures c.in_err-entry.ensures))
 

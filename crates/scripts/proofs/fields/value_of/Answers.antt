@@ -11,7 +11,7 @@ use Rattle.scripts.proofs.fields.value_of.Goals as goal
 pub returns-in_err-given : goal.returns-in_err-given
 returns-in_err-given c =
     let cut = MatchOption-at_none _ _ c.in_err-given.was (cut_split 61 c.args.word.now c.split_once.result c.split_once.ensures.cases (lit< tt)) in
-    ap (value_from c.args.name.now) cut ∙ sym (ap text_seen c.from-residual.ensures)
+    ap (value_from c.args.name.now) cut ∙ sym (ap text_seen c.from_residual.ensures)
 
 pub returns-then-eq : goal.returns-then-eq
 returns-then-eq c =

@@ -15,7 +15,7 @@ returns-in_err-number c =
     let steps = c.in-Some.ensures.steps in
     let piece = c.in-Some.piece.now in
     let cut = next_number (split_pattern now) c.loop-piece.invariant.1 (split_text now) piece (split_text next) (split_has_more now) (split_has_more next) steps.0 steps.1.1 in
-    let p = err_from_is_err_and c.from-residual.result c.from-residual.ensures.1 in
+    let p = err_from_is_err_and c.from_residual.result c.from_residual.ensures.1 in
     let numbers = vec_items c.loop-piece.numbers in
     let left = remaining comma (split_has_more next) (split_text next) in
     rw (p.1, p.2) (blames_like (number_said piece) _ _ (λ f e. c.loop-piece.invariant.0 ∙ ap (λ l. after numbers (numbers_in l)) cut ∙ after_bad numbers (number_said piece) (numbers_in left) f e) c.in_err-number.ensures)

@@ -29,7 +29,7 @@ returns-in_err-number c =
     let left = remaining gap (split_has_more next) (split_text next) in
     let cut = next_gap (split_pattern now) c.loop-piece.invariant.1 (split_text now) piece (split_text next) (split_has_more now) (split_has_more next) steps.0 steps.1.1 in
     let word = c.loop-piece.invariant.0 ∙ ap (λ l. after numbers (numbers_in l)) (ap words_in cut ∙ words_filled piece left (sym c.if-is_empty.ensures)) in
-    reads_break _ _ c.from-residual.result _ c.from-residual.ensures.1 (blames_like (number_said piece) _ _ (λ f e. word ∙ after_bad numbers (number_said piece) (numbers_in (words_in left)) f e) c.in_err-number.ensures)
+    reads_break _ _ c.from_residual.result _ c.from_residual.ensures.1 (blames_like (number_said piece) _ _ (λ f e. word ∙ after_bad numbers (number_said piece) (numbers_in (words_in left)) f e) c.in_err-number.ensures)
 
 pub loop-piece-preserved : goal.loop-piece-preserved
 loop-piece-preserved c =

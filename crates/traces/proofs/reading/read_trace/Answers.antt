@@ -8,14 +8,14 @@ use Rattle.traces.proofs.Goings.{Through, through_none, through_more, through_al
 use Rattle.traces.proofs.reading.read_trace.Goals as goal
 
 pub overflow_add-number : goal.overflow_add-number
-overflow_add-number c = omega (arith, c.loop-line.invariant.2, ap split_parts_left c.into-iter-line-iterator.ensures.into-iter-gives ∙ c.split-line-items.ensures.remaining, c.well-formed)
+overflow_add-number c = omega (arith, c.loop-line.invariant.2, ap split_parts_left c.into_iter-line-iterator.ensures.into_iter_gives ∙ c.split-line-items.ensures.remaining, c.well_formed)
 
 pub loop-line-init : goal.loop-line-init
 loop-line-init c =
-    let same = c.into-iter-line-iterator.ensures.into-iter-gives in
+    let same = c.into_iter-line-iterator.ensures.into_iter_gives in
     let made = c.split-line-items.ensures in
-    let live : split_has_more c.into-iter-line-iterator.result ≡ true = ap split_has_more same ∙ made.Has-more in
-    let text : split_text c.into-iter-line-iterator.result ≡ c.args.text.now = ap split_text same ∙ made.text in
+    let live : split_has_more c.into_iter-line-iterator.result ≡ true = ap split_has_more same ∙ made.has_more in
+    let text : split_text c.into_iter-line-iterator.result ≡ c.args.text.now = ap split_text same ∙ made.text in
     (rw (live, text) (through_none _ _ c.new-codes.ensures.items), ap split_pattern same ∙ made.pattern, omega arith)
 
 pub loop-line-preserved : goal.loop-line-preserved
@@ -33,7 +33,7 @@ returns-in_err-read_line c =
     let next = c.next.new.self in
     let steps = c.in-Some.ensures.steps in
     let cut = next_line (split_pattern now) c.loop-line.invariant.1 (split_text now) c.in-Some.line.now (split_text next) (split_has_more now) (split_has_more next) steps.0 steps.1.1 in
-    let p = err_from_is_err_and c.from-residual.result c.from-residual.ensures.1 in
+    let p = err_from_is_err_and c.from_residual.result c.from_residual.ensures.1 in
     rw (p.1, p.2) (refused c.loop-line.invariant.0 _ _ cut _ c.in_err-read_line.ensures)
 
 pub returns : goal.returns

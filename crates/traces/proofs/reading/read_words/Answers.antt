@@ -10,10 +10,10 @@ use Rattle.traces.proofs.reading.read_words.Goals as goal
 
 pub loop-word-init : goal.loop-word-init
 loop-word-init c =
-    let same = c.into-iter-word-iterator.ensures.into-iter-gives in
+    let same = c.into_iter-word-iterator.ensures.into_iter_gives in
     let made = c.split-word-items.ensures in
-    let live : split_has_more c.into-iter-word-iterator.result ≡ true = ap split_has_more same ∙ made.Has-more in
-    let text : split_text c.into-iter-word-iterator.result ≡ c.args.line.now = ap split_text same ∙ made.text in
+    let live : split_has_more c.into_iter-word-iterator.result ≡ true = ap split_has_more same ∙ made.has_more in
+    let text : split_text c.into_iter-word-iterator.result ≡ c.args.line.now = ap split_text same ∙ made.text in
     (rw (live, text) (gone_none _ _), λ d. ap (λ p. char_set_contains p d) (ap split_pattern same ∙ made.pattern))
 
 pub loop-word-preserved : goal.loop-word-preserved
@@ -31,7 +31,7 @@ returns-in_err-read_word c =
     let next = c.next.new.self in
     let steps = c.in-Some.ensures.steps in
     let cut = next_words (split_pattern now) c.loop-word.invariant.1 (split_text now) c.in-Some.word.now (split_text next) (split_has_more now) (split_has_more next) steps.0 steps.1.1 in
-    let p = err_from_is_err_and c.from-residual.result c.from-residual.ensures.1 in
+    let p = err_from_is_err_and c.from_residual.result c.from_residual.ensures.1 in
     rw (p.1, p.2) (blamed c.loop-word.invariant.0 _ _ cut c.args.number _ c.in_err-read_word.ensures)
 
 pub returns : goal.returns

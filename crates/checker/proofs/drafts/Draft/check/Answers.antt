@@ -7,7 +7,7 @@ use Rattle.checker.proofs.drafts.Draft.check.Goals as goal
 
 pub returns-in_err-type_rows : goal.returns-in_err-type_rows
 returns-in_err-type_rows g c =
-    let q = err_from_is_err_and c.from-residual.result c.from-residual.ensures.1 in
+    let q = err_from_is_err_and c.from_residual.result c.from_residual.ensures.1 in
     let d = c.args.self.now in
     let four : length d.all ≡ 4 = search rules in
     let many : length d.rows ≡ 64 = search rules in

@@ -18,7 +18,7 @@ pub returns-in_err-all : goal.returns-in_err-all
 returns-in_err-all g c =
     let ts = c.args.given.now in
     let m = g.A.Algebra.meaning in
-    subst (KnownTypes m (types_given ts)) (sym c.from-residual.ensures)
+    subst (KnownTypes m (types_given ts)) (sym c.from_residual.ensures)
     (and_right (leb (length (types_given ts)) 4) (known_types m (types_given ts)) (c.loop-i.invariant.0 ∙ known_no m ts c.loop-i.i _ (omega arith) c.in_err-all.ensures))
 
 pub loop-i-preserved : goal.loop-i-preserved
