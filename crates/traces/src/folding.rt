@@ -8,7 +8,7 @@ ghost use Rattle.traces.specs.Folds.{counted, flagged, total, total_squares, wit
 ghost use Rattle.traces.specs.Summaries.{summary_of};
 
 use algebra::{Algebra, Operands, Signature};
-use counts::{ADD, LESS, MUL, QUO, Value};
+use counts::{ADD, Counts, LESS, MUL, QUO, Value};
 
 /// The two counts of these codes, as operands.
 fn pair(a: u32, b: u32) -> Operands<Value>
@@ -42,7 +42,7 @@ fn flag_in(given: Result<Value, u8>) -> bool
 fn applied(op: u8, operands: Operands<Value>) -> Result<u32, u8>
     ensures { result ≡ counted (applying table op (samples sampled operands)) }
 {
-    count_in(<counts::Counts as algebra::Algebra>::apply(op, operands))
+    count_in(Counts::apply(op, operands))
 }
 
 /// The sum of two counts.
@@ -64,7 +64,7 @@ fn with_square(so_far: u32, count: u32) -> u32
 fn is_less(a: u32, b: u32) -> bool
     ensures { result ≡ (less a b == 1) }
 {
-    flag_in(<counts::Counts as algebra::Algebra>::apply(LESS, pair(a, b)))
+    flag_in(Counts::apply(LESS, pair(a, b)))
 }
 
 /// The lesser of two counts, the first if they are equal.
@@ -92,7 +92,7 @@ fn quotient(a: u32, b: u32) -> Result<u32, u8>
 fn nothing() -> u32
     ensures { result ≡ 0 }
 {
-    match <counts::Counts as algebra::Algebra>::signature(ADD) {
+    match Counts::signature(ADD) {
         Some(
             Signature {
                 unit: Some(code),

@@ -9,6 +9,6 @@ returns c =
     let all = c.args.self.now.all in
     let four : length all ≡ 4 = search rules in
     elim c.if-self-lt4.branch [
-      | then-self-lt4 w ↦ ap (λ (n : ℕ). take n all) (omega (arith, w.count_is))
-      | else-self-lt4 w ↦ take_all (c.if-self-lt4.count - 0) all (omega (arith, w.count_is)) ∙ sym (take_all c.args.self.now.count all (omega (arith, w.if-self-lt4)))
+      | then-self-lt4 w ↦ ap (λ (n : ℕ). take n all) (omega (arith, w.count-is))
+      | else-self-lt4 w ↦ take_all (c.if-self-lt4.count - 0) all (omega (arith, w.count-is)) ∙ sym (take_all c.args.self.now.count all (omega (arith, w.if-self-lt4)))
     ]
