@@ -385,10 +385,10 @@ last_type (x ∷ rs) r = last_type rs x
 
 -- what was found of the last line is the type of the result
 pub result_found : (m : Meaning) (es : List Entry) (ps : List theory.ArrayType) (cs : List ℕ) (first rows : List Row) (f : Forecast) (n : ℕ) (d : Row) (c : Checked m es ps cs first rows f) → length rows ≡ n + 1
-    → array_type (get_or rows n d).found.array ≡ theory.result_type c.type-inv
+    → array_type (get_or rows n d).found.array ≡ theory.result_type c.typed
 result_found m es ps cs first rows f n d c long =
-    let types_are : map (λ (r : Row). array_type r.found.array) rows ≡ theory.types_of c.type-inv = found_types cs rows ∙ ap (map (λ (x : Plan). x.type)) c.planned ∙ plan_types m (known_in es) [] 0 c.type-inv in
+    let types_are : map (λ (r : Row). array_type r.found.array) rows ≡ theory.types_of c.typed = found_types cs rows ∙ ap (map (λ (x : Plan). x.type)) c.planned ∙ plan_types m (known_in es) [] 0 c.typed in
     sym (get_or-map (λ (r : Row). array_type r.found.array) rows n d theory.no_type (omega arith))
     ∙ ap (λ (ts : List theory.ArrayType). get_or ts n theory.no_type) types_are
-    ∙ sym (last_read (theory.types_of c.type-inv) theory.no_type theory.no_type n (sym (ap length types_are) ∙ length-map rows (λ (r : Row). array_type r.found.array) ∙ long))
-    ∙ sym (last_type c.type-inv (theory.literal theory.no_type []))
+    ∙ sym (last_read (theory.types_of c.typed) theory.no_type theory.no_type n (sym (ap length types_are) ∙ length-map rows (λ (r : Row). array_type r.found.array) ∙ long))
+    ∙ sym (last_type c.typed (theory.literal theory.no_type []))

@@ -1,5 +1,6 @@
 // The check of a draft: its lines typed one after another, what is found written to them, and the forecasts held against the limits.
 ghost use Rattle.std.specs.Prelude.{◌≡◌, ◌^◌, ◌<◌, ◌≤◌, length};
+ghost use Rattle.remora.specs.Forecasts.{limited};
 ghost use Rattle.typing.specs.Typings.{types_of};
 ghost use Rattle.checker.specs.Checking.{RowTyped, CheckedAs, DraftChecked, LimitedBy};
 
@@ -8,7 +9,7 @@ use super::forecasts::{Forecast, Share, known};
 use super::rows::{Row, part};
 use algebra::Algebra;
 use lines::Refusal;
-use remora::within_limits;
+use remora::{STEPS, within_limits};
 use shapes::ArrayType;
 use typing::{Context, Entry, type_line};
 
@@ -59,8 +60,15 @@ fn type_rows<'a, A: Algebra>(
     Ok(())
 }
 
+/// Whether forecasts, of which the steps may be more than a `u64` holds, are within the limits.
+fn are_within_limits(steps: u128, room: u64, depth: u64) -> bool
+    ensures { result ≡ limited steps room depth }
+{
+    steps <= STEPS as u128 && within_limits(steps as u64, room, depth)
+}
+
 /// What is known of a formula with these parameters and this result, if its forecasts, by those of its lines, are within the limits.
-fn limited(
+fn entry_within(
     all: [ArrayType; 4],
     count: u8,
     res: ArrayType,
@@ -72,7 +80,7 @@ fn limited(
     let steps = 1 + forecast.steps;
     let room = forecast.room();
     let depth = 1 + forecast.depth as u64;
-    if !within_limits(steps, room, depth) {
+    if !are_within_limits(steps, room, depth) {
         return Err(Refusal::BeyondLimits);
     }
     Ok(Entry {
@@ -104,6 +112,6 @@ impl Draft {
             &mut forecast,
         )?;
         let result = self.rows[height - 1].found.array;
-        limited(all, self.count, result, forecast)
+        entry_within(all, self.count, result, forecast)
     }
 }

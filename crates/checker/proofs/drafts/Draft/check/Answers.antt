@@ -24,4 +24,4 @@ returns g c =
     let front : take (d.height - 0) d.rows ≡ take d.height d.rows = ap (λ (n : ℕ). take n d.rows) (omega arith) in
     let own : take (c.min-count.result - 0) d.all ≡ take d.count d.all = take_clamped d.all d.count (c.min-count.result - 0) (omega (arith, c.min-count.ensures)) in
     check_done g.A.Algebra.meaning c.args.formulas.now d (take (d.height - 0) d.rows) c.type_rows.new.rows (take (c.min-count.result - 0) d.all) c.type_rows.new.forecast
-    front own (omega arith) tt _ c.limited.result c.requires.0 c.in_ok-type_rows.ensures c.limited.ensures
+    front own (omega arith) tt _ c.entry_within.result c.requires.0 c.in_ok-type_rows.ensures c.entry_within.ensures
