@@ -16,15 +16,15 @@ use Rattle.lines.specs.Refusals.{answer_of}
 use Rattle.typing.specs.declared.found.Entry.{Entry}
 use Rattle.typing.specs.Typings.{types_of}
 use Rattle.typing.specs.Plans.{entry_of, mark_of, known_in, usable_in}
-use Rattle.formulas.specs.declared.rows.Row.{Row}
-use Rattle.formulas.specs.declared.drafts.Draft.{Draft}
-use Rattle.formulas.specs.declared.tables.Tables.{Tables}
-use Rattle.formulas.specs.Views.{draft_of, lines_in, plans_in, kept_with, formulas_of}
-use Rattle.formulas.specs.Changes.{dropped, kept}
-use Rattle.formulas.specs.Sound.{sound, within, coded}
-use Rattle.formulas.specs.Checking.{givens, verdict, refusal_of, with_rows, Accepted, DraftChecked}
-use Rattle.formulas.proofs.Viewing.{lines_length, lines_same, lines_given, plans_same, coded_given, kept_length, kept_entry, kept_mark, kept_more}
-use Rattle.formulas.proofs.Sounding.{parts, dropped_sound, dropped_other, kept_sound}
+use Rattle.checker.specs.declared.rows.Row.{Row}
+use Rattle.checker.specs.declared.drafts.Draft.{Draft}
+use Rattle.checker.specs.declared.tables.Tables.{Tables}
+use Rattle.checker.specs.Views.{draft_of, lines_in, plans_in, kept_with, formulas_of}
+use Rattle.checker.specs.Changes.{dropped, kept}
+use Rattle.checker.specs.Sound.{sound, within, coded}
+use Rattle.checker.specs.Checking.{givens, verdict, refusal_of, with_rows, Accepted, DraftChecked}
+use Rattle.checker.proofs.Viewing.{lines_length, lines_same, lines_given, plans_same, coded_given, kept_length, kept_entry, kept_mark, kept_more}
+use Rattle.checker.proofs.Sounding.{parts, dropped_sound, dropped_other, kept_sound}
 use Rattle.collection.specs.States.{state_with}
 use Rattle.collection.specs.Promises.{Entered}
 use Rattle.collection.proofs.Serving.{choose_yes, choose_no, slip_open, draft_open, taken, count_is}

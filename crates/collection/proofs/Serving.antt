@@ -17,16 +17,16 @@ use Rattle.lines.specs.declared.refusals.Refusal.{Refusal}
 use Rattle.typing.specs.declared.found.Entry.{Entry}
 use Rattle.typing.specs.Typings.{types_of}
 use Rattle.typing.specs.Plans.{entry_of, mark_of, known_in, usable_in}
-use Rattle.formulas.specs.declared.drafts.Draft.{Draft}
-use Rattle.formulas.specs.declared.tables.Extent.{Extent}
-use Rattle.formulas.specs.declared.tables.Tables.{Tables}
-use Rattle.formulas.specs.declared.parameters.Parameters.{Parameters}
-use Rattle.formulas.specs.Views.{draft_of, lines_in, kept_in, formulas_of}
-use Rattle.formulas.specs.Changes.{begun, grown, dropped, withdrawn_at, marked, absent}
-use Rattle.formulas.specs.Parameters.{KnownTypes}
-use Rattle.formulas.specs.Sound.{sound}
-use Rattle.formulas.proofs.Viewing.{lines_length, lines_codes, lines_grown, kept_length, kept_entry, kept_mark, kept_withdrawn, kept_lines, kept_codes}
-use Rattle.formulas.proofs.Sounding.{parts, Parts}
+use Rattle.checker.specs.declared.drafts.Draft.{Draft}
+use Rattle.checker.specs.declared.tables.Extent.{Extent}
+use Rattle.checker.specs.declared.tables.Tables.{Tables}
+use Rattle.checker.specs.declared.parameters.Parameters.{Parameters}
+use Rattle.checker.specs.Views.{draft_of, lines_in, kept_in, formulas_of}
+use Rattle.checker.specs.Changes.{begun, grown, dropped, withdrawn_at, marked, absent}
+use Rattle.checker.specs.Parameters.{KnownTypes}
+use Rattle.checker.specs.Sound.{sound}
+use Rattle.checker.proofs.Viewing.{lines_length, lines_codes, lines_grown, kept_length, kept_entry, kept_mark, kept_withdrawn, kept_lines, kept_codes}
+use Rattle.checker.proofs.Sounding.{parts, Parts}
 use Rattle.collection.specs.States.{state_with}
 use Rattle.collection.specs.Promises.{Serves, Entered, numbered}
 

@@ -7,11 +7,11 @@ use Rattle.lines.specs.declared.refusals.Refusal.{Refusal}
 use Rattle.lines.specs.Refusals.{answer_of}
 use Rattle.typing.specs.declared.found.Entry.{Entry}
 use Rattle.typing.specs.Plans.{entry_of}
-use Rattle.formulas.specs.declared.drafts.Draft.{Draft}
-use Rattle.formulas.specs.declared.tables.Tables.{Tables}
-use Rattle.formulas.specs.Views.{draft_of}
-use Rattle.formulas.specs.Changes.{dropped}
-use Rattle.formulas.specs.Sound.{sound}
+use Rattle.checker.specs.declared.drafts.Draft.{Draft}
+use Rattle.checker.specs.declared.tables.Tables.{Tables}
+use Rattle.checker.specs.Views.{draft_of}
+use Rattle.checker.specs.Changes.{dropped}
+use Rattle.checker.specs.Sound.{sound}
 use Rattle.collection.specs.declared.slips.Slip.{Slip}
 use Rattle.collection.specs.States.{state_with}
 

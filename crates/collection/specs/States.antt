@@ -1,9 +1,9 @@
 -- A collection as the theory's state.
 use Rattle.std.specs.Prelude.{ℕ}
 use Rattle.remora.specs.Calls.{State, absent}
-use Rattle.formulas.specs.declared.drafts.Draft.{Draft}
-use Rattle.formulas.specs.declared.tables.Tables.{Tables}
-use Rattle.formulas.specs.Views.{draft_of, formulas_of}
+use Rattle.checker.specs.declared.drafts.Draft.{Draft}
+use Rattle.checker.specs.declared.tables.Tables.{Tables}
+use Rattle.checker.specs.Views.{draft_of, formulas_of}
 use Rattle.collection.specs.declared.holdings.Collection.{Collection}
 
 -- The state of a collection that opened so many drafts, with this draft and these tables.

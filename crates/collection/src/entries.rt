@@ -1,6 +1,6 @@
 // Entering a draft.
 ghost use Rattle.std.specs.Prelude.{◌≡◌, true};
-ghost use Rattle.formulas.specs.Sound.{sound};
+ghost use Rattle.checker.specs.Sound.{sound};
 ghost use Rattle.collection.specs.Promises.{Entered};
 
 use algebra::Algebra;

@@ -1,6 +1,6 @@
 // What a collection holds: the number of drafts opened, the draft, and the entered formulas.
 ghost use Rattle.std.specs.Prelude.{◌≡◌, true};
-ghost use Rattle.formulas.specs.Sound.{sound};
+ghost use Rattle.checker.specs.Sound.{sound};
 
 use algebra::Algebra;
 use checker::{Draft, Tables};

@@ -2,8 +2,8 @@
 use Rattle.std.proofs.Common.{◌<◌, List, Ok, Err, ap, ◌∙◌, subst, inl, inr, arith}
 use Rattle.std.proofs.lemmas.Result.{err_from_is_err_and}
 use Rattle.typing.specs.declared.found.Entry.{Entry}
-use Rattle.formulas.specs.Changes.{kept}
-use Rattle.formulas.specs.Checking.{DraftChecked}
+use Rattle.checker.specs.Changes.{kept}
+use Rattle.checker.specs.Checking.{DraftChecked}
 use Rattle.collection.proofs.Entering.{enter_not, enter_refused, enter_kept, asked_yes, asked_no, keep_fits}
 use Rattle.collection.proofs.entries.entered.Goals.{then-draft-eq0-via-then-draft-eq0, then-draft-eq0-via-else-draft-eq0+then-tables-ge64}
 use Rattle.collection.proofs.entries.entered.Goals as goal

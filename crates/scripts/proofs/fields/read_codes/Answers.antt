@@ -12,4 +12,4 @@ pub returns-in_err-codes : goal.returns-in_err-codes
 returns-in_err-codes c =
     let value = c.args.value.now in
     let plain = behind_none 64 value (MatchOption-at_none _ _ c.in_default.is (strip_prefix_char 64 value c.strip_prefix.result c.strip_prefix.ensures.cases (lit< tt))) in
-    reads_break _ _ c.from_residual-in-err-codes.result _ c.from_residual-in-err-codes.ensures.1 (blames_like (listed value) (codes_said value) _ (λ f e. ap (codes_from value) plain ∙ then_wrong _ _ f e) c.in_err-codes.ensures)
+    reads_break _ _ c.from_residual-in_err-codes.result _ c.from_residual-in_err-codes.ensures.1 (blames_like (listed value) (codes_said value) _ (λ f e. ap (codes_from value) plain ∙ then_wrong _ _ f e) c.in_err-codes.ensures)

@@ -17,13 +17,13 @@ pub returns-in_err-base : goal.returns-in_err-base
 returns-in_err-base c =
     let word = c.args.word.now in
     let cut = fault_some _ (no_type word) _ (MatchOption-at_some _ _ (c.in-Some.name, c.in-Some.rest) c.in-Some.is (cut_split 91 word c.split_once.result c.split_once.ensures.cases (lit< tt))) in
-    reads_break _ _ c.from_residual-in-err-base.result _ c.from_residual-in-err-base.ensures.1 (fails_next _ _ _ _ cut (fails_first _ _ _ c.in_err-base.ensures))
+    reads_break _ _ c.from_residual-in_err-base.result _ c.from_residual-in_err-base.ensures.1 (fails_next _ _ _ _ cut (fails_first _ _ _ c.in_err-base.ensures))
 
 pub returns-in_err-numbers : goal.returns-in_err-numbers
 returns-in_err-numbers c =
     let word = c.args.word.now in
     let cut = fault_some _ (no_type word) _ (MatchOption-at_some _ _ (c.in-Some.name, c.in-Some.rest) c.in-Some.is (cut_split 91 word c.split_once.result c.split_once.ensures.cases (lit< tt))) in
-    reads_break _ _ c.from_residual-in-err-numbers.result _ c.from_residual-in-err-numbers.ensures.1 (fails_next _ _ _ _ cut (fails_next _ _ _ _ c.in_ok-base.ensures (fails_first _ _ _ c.in_err-numbers.ensures)))
+    reads_break _ _ c.from_residual-in_err-numbers.result _ c.from_residual-in_err-numbers.ensures.1 (fails_next _ _ _ _ cut (fails_next _ _ _ _ c.in_ok-base.ensures (fails_first _ _ _ c.in_err-numbers.ensures)))
 
 pub returns : goal.returns
 returns c =

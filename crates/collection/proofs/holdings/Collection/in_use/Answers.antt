@@ -1,7 +1,7 @@
 -- A number that was given, and its mark.
 use Rattle.std.proofs.Common.{Bool, not, ◌&&◌, get_or, sym, ap, ◌∙◌}
 use Rattle.remora.specs.Calls as calls
-use Rattle.formulas.specs.Views.{formulas_of}
+use Rattle.checker.specs.Views.{formulas_of}
 use Rattle.collection.proofs.Serving.{given_below, given_few, mark_is}
 use Rattle.collection.proofs.holdings.Collection.in_use.Goals as goal
 

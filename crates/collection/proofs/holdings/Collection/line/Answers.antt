@@ -2,9 +2,9 @@
 use Rattle.std.proofs.Common.{◌+◌, ◌&&◌, leb, length, sym, ap, ◌∙◌, arith}
 use Rattle.std.proofs.lemmas.Bool.{and_parts, leb-true}
 use Rattle.lines.specs.Lines.{line_of}
-use Rattle.formulas.specs.declared.drafts.Draft.{Draft}
-use Rattle.formulas.specs.Sound.{sound}
-use Rattle.formulas.proofs.Sounding.{grown_sound}
+use Rattle.checker.specs.declared.drafts.Draft.{Draft}
+use Rattle.checker.specs.Sound.{sound}
+use Rattle.checker.proofs.Sounding.{grown_sound}
 use Rattle.collection.proofs.Serving.{line_wrong, line_full, line_bad, line_done}
 use Rattle.collection.proofs.holdings.Collection.line.Goals as goal
 

@@ -2,9 +2,9 @@
 use Rattle.std.proofs.Common.{ap, ◌∙◌}
 use Rattle.std.proofs.lemmas.Bool.{lt-ltb, le-ltb}
 use Rattle.lines.specs.Lines.{types_given}
-use Rattle.formulas.specs.declared.drafts.Draft.{Draft}
-use Rattle.formulas.specs.Sound.{sound}
-use Rattle.formulas.proofs.Sounding.{begun_sound}
+use Rattle.checker.specs.declared.drafts.Draft.{Draft}
+use Rattle.checker.specs.Sound.{sound}
+use Rattle.checker.proofs.Sounding.{begun_sound}
 use Rattle.collection.proofs.Serving.{open_many, open_unknown, open_done}
 use Rattle.collection.proofs.holdings.Collection.open.Goals as goal
 

@@ -1,8 +1,8 @@
 -- The draft is dropped, or the slip is another's.
 use Rattle.std.proofs.Common.{sym, ap, ◌∙◌}
-use Rattle.formulas.specs.declared.drafts.Draft.{Draft}
-use Rattle.formulas.specs.Sound.{sound}
-use Rattle.formulas.proofs.Sounding.{dropped_sound}
+use Rattle.checker.specs.declared.drafts.Draft.{Draft}
+use Rattle.checker.specs.Sound.{sound}
+use Rattle.checker.proofs.Sounding.{dropped_sound}
 use Rattle.collection.proofs.Serving.{scrap_wrong, scrap_done}
 use Rattle.collection.proofs.holdings.Collection.scrap.Goals as goal
 

@@ -1,8 +1,8 @@
 -- The number is withdrawn, or it is not in use.
 use Rattle.std.proofs.Common.{ltb, length, sym, ◌∙◌}
 use Rattle.std.proofs.lemmas.Bool.{and_parts}
-use Rattle.formulas.specs.Views.{formulas_of}
-use Rattle.formulas.proofs.Sounding.{withdrawn_sound}
+use Rattle.checker.specs.Views.{formulas_of}
+use Rattle.checker.proofs.Sounding.{withdrawn_sound}
 use Rattle.collection.proofs.Serving.{given_few, withdraw_not, withdraw_done}
 use Rattle.collection.proofs.holdings.Collection.withdraw.Goals as goal
 
