@@ -11,5 +11,5 @@ abbrev pub state_with : ℕ → Draft → Tables → State
 state_with n d t = record { serials = n; draft = draft_of d; formulas = formulas_of t; run = absent }
 
 -- The state of a collection.
-abbrev pub state_of : {X Y Z W : Type 0} → Collection X Y Z W → State
+abbrev pub state_of : {A : Type 0} → Collection A → State
 state_of c = state_with c.serials c.draft c.tables

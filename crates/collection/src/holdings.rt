@@ -2,13 +2,12 @@
 ghost use Rattle.std.specs.Prelude.{◌≡◌, true};
 ghost use Rattle.checker.specs.Sound.{sound};
 
-use algebra::Algebra;
 use checker::{Draft, Tables};
 use std::marker::PhantomData;
 
 /// A collection of formulas over an algebra of samples.
 #[derive(Drop)]
-pub struct Collection<A: Algebra> {
+pub struct Collection<A> {
     pub(crate) serials: u32,
     pub(crate) draft: Draft,
     pub(crate) tables: Tables,

@@ -35,7 +35,7 @@ invariant_of-self g c =
     let both = and_parts (leb (t.height + d.height + 1) 1024) (leb (t.width + d.width + length cs) 4096) room.1 in
     let few = leb-true (d.height + 1) 64 room.0 in
     let tall = leb-true (t.height + d.height + 1) 1024 both.0 in
-    (ap (λ (e : Draft). sound e t) c.add.ensures ∙ grown_sound d t c.in-Some.fields cs s.sound (omega arith) (omega arith) (leb-true (t.width + d.width + length cs) 4096 both.1), tt)
+    record { sound = ap (λ (e : Draft). sound e t) c.add.ensures ∙ grown_sound d t c.in-Some.fields cs s.sound (omega arith) (omega arith) (leb-true (t.width + d.width + length cs) 4096 both.1) }
 
 pub returns : goal.returns
 returns g c =

@@ -15,7 +15,7 @@ pub invariant_of-self : goal.invariant_of-self
 invariant_of-self g c =
     let s = c.args.self.now in
     let d = s.draft in
-    (ap (λ (e : Draft). sound e s.tables) c.drop_lines.ensures ∙ dropped_sound d s.tables s.sound, tt)
+    record { sound = ap (λ (e : Draft). sound e s.tables) c.drop_lines.ensures ∙ dropped_sound d s.tables s.sound }
 
 pub returns : goal.returns
 returns g c =
