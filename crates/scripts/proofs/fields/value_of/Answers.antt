@@ -18,11 +18,11 @@ returns-then-eq c =
     let value = c.in_ok-given.value.now in
     let given = c.in_ok-given.given.now in
     let cut = MatchOption-at_some _ _ _ c.in_ok-given.was (cut_split 61 c.args.word.now c.split_once.result c.split_once.ensures.cases (lit< tt)) in
-    ap (value_from c.args.name.now) cut ∙ ap (λ v. cond v (Some value) None) ((bytes_eq-Decides given c.args.name.now).1 (c.eq.ensures.0 c.if-eq.true))
+    ap (value_from c.args.name.now) cut ∙ ap (λ v. cond v (Some value) None) (sym c.eq.ensures ∙ c.if-eq.true)
 
 pub returns-else-eq : goal.returns-else-eq
 returns-else-eq c =
     let value = c.in_ok-given.value.now in
     let given = c.in_ok-given.given.now in
     let cut = MatchOption-at_some _ _ _ c.in_ok-given.was (cut_split 61 c.args.word.now c.split_once.result c.split_once.ensures.cases (lit< tt)) in
-    ap (value_from c.args.name.now) cut ∙ ap (λ v. cond v (Some value) None) (differs given c.args.name.now (not_from_Decides c.eq.result c.eq.ensures c.if-eq.false))
+    ap (value_from c.args.name.now) cut ∙ ap (λ v. cond v (Some value) None) (sym c.eq.ensures ∙ c.if-eq.false)
