@@ -4,11 +4,12 @@
 ghost use Rattle.std.specs.Prelude.{◌≡◌};
 ghost use Rattle.formulary.specs.Sources.{source_of, name_of};
 
+use std::process::ExitCode;
 use std::{env, fmt, fs, io};
 use traces::{Summary, TraceError, read_trace};
 
 /// Why there is no summary.
-#[derive(Debug, Drop)]
+#[derive(Drop)]
 enum Failure {
     /// The text could not be read, or the summary not be written.
     System(io::Error),
@@ -86,13 +87,15 @@ fn run(rt: &HostRuntime, source: &Source) -> Result<(), Failure> {
     Ok(())
 }
 
-/// Prints the summary of the trace that the first argument names; a failure is told on standard error.
-fn main(rt: HostRuntime) -> Result<(), Failure> {
+/// Prints the summary of the trace that the first argument names; a failure is told in one line on standard error.
+fn main(rt: HostRuntime) -> io::Result<ExitCode> {
     let source = Source::named(env::args(&rt)?.nth(1));
-    let result = run(&rt, &source);
-    if let Err(failure) = &result {
-        let name = source.name();
-        eprintln!(rt; "formulary: {name}: {failure}")?;
+    match run(&rt, &source) {
+        Ok(()) => Ok(ExitCode::SUCCESS),
+        Err(failure) => {
+            let name = source.name();
+            eprintln!(rt; "formulary: {name}: {failure}")?;
+            Ok(ExitCode::FAILURE)
+        }
     }
-    result
 }

@@ -4,6 +4,7 @@
 use lines::Line;
 use scripts::{AlgebraName, Codes, Command, LineFields, read_command, read_numbers};
 use sessions::{Session, Told, Trouble};
+use std::process::ExitCode;
 use std::{env, fs, io};
 
 /// The codes that a command gives, out of the script or out of the file that it names.
@@ -74,58 +75,55 @@ fn play(rt: &HostRuntime, session: &mut Session, script: &str) -> Result<(), (us
     Ok(())
 }
 
-/// Why the program fails.
-#[derive(Drop)]
-enum Failure {
-    /// A script cannot be read, or an answer not be written.
-    System(io::Error),
-    /// A session was stopped, as was told.
-    Stopped,
-}
-
-impl From<io::Error> for Failure {
-    fn from(error: io::Error) -> Failure {
-        Failure::System(error)
-    }
-}
-
-/// One session: its answers, its summary, and what stopped it.
-fn run(rt: &HostRuntime, script: &str) -> Result<(), Failure> {
+/// One session: its answers, its summary, and what stopped it; says whether it went to its end.
+fn run(rt: &HostRuntime, script: &str) -> io::Result<bool> {
     let mut session = Session::new(rt.alloc());
     let played = play(rt, &mut session, script);
     let summary = &session;
     let printed = println!(rt; "{summary}");
     session.end();
     printed?;
-    if let Err((number, trouble)) = played {
-        eprintln!(rt; "line {number}: {trouble}")?;
-        return Err(Failure::Stopped);
-    }
-    Ok(())
-}
-
-/// The script in a file. One that cannot be read is told.
-fn script_in(rt: &HostRuntime, name: &str) -> Result<String, Failure> {
-    match fs::read_to_string(rt, name) {
-        Ok(script) => Ok(script),
-        Err(error) => {
-            eprintln!(rt; "formulary: {name}: {error}")?;
-            Err(Failure::System(error))
+    match played {
+        Ok(()) => Ok(true),
+        Err((number, trouble)) => {
+            eprintln!(rt; "line {number}: {trouble}")?;
+            Ok(false)
         }
     }
 }
 
-/// Runs the scripts that the arguments name, each as a session of its own, or the one on standard input.
-fn main(rt: HostRuntime) -> Result<(), Failure> {
+/// The session that the script in a file gives. A file that cannot be read is told.
+fn run_file(rt: &HostRuntime, name: &str) -> io::Result<bool> {
+    match fs::read_to_string(rt, name) {
+        Ok(script) => run(rt, script.as_str()),
+        Err(error) => {
+            eprintln!(rt; "formulary: {name}: {error}")?;
+            Ok(false)
+        }
+    }
+}
+
+/// Runs the scripts that the arguments name up to the first that fails, each as a session of its own, or the one on standard input.
+fn run_all(rt: &HostRuntime) -> io::Result<bool> {
     let mut named = false;
-    for name in env::args(&rt)?.skip(1) {
+    for name in env::args(rt)?.skip(1) {
         named = true;
-        let script = script_in(&rt, name.as_str())?;
-        run(&rt, script.as_str())?;
+        if !run_file(rt, name.as_str())? {
+            return Ok(false);
+        }
     }
-    if !named {
-        let script = io::read_to_string(rt.alloc(), rt.stdin())?;
-        run(&rt, script.as_str())?;
+    if named {
+        return Ok(true);
     }
-    Ok(())
+    let script = io::read_to_string(rt.alloc(), rt.stdin())?;
+    run(rt, script.as_str())
+}
+
+/// Runs the scripts that are named; the status is 1 where one fails.
+fn main(rt: HostRuntime) -> io::Result<ExitCode> {
+    if run_all(&rt)? {
+        Ok(ExitCode::SUCCESS)
+    } else {
+        Ok(ExitCode::FAILURE)
+    }
 }
