@@ -1,15 +1,13 @@
 -- A draft that is checked.
-use Rattle.std.proofs.Common.{◌≡◌, ℕ, zero, suc, ◌+◌, ◌-◌, ◌*◌, ◌^◌, ◌<◌, ◌≤◌, Bool, true, false, cond, List, [], ◌∷◌, ◌++◌, length, get_or, take, drop, Some, None, Ok, Err, Result, sym, refl, ap, ◌∙◌, subst, arith, length-append, length-drop, length-take-le}
+use Rattle.std.proofs.Common.{◌≡◌, ℕ, ◌+◌, ◌-◌, ◌<◌, ◌≤◌, Bool, cond, List, [], length, get_or, take, Some, None, Ok, Err, Result, sym, refl, ap, ◌∙◌, subst, arith, length-append, length-drop, length-take-le}
 use borrow.Rule.Slice.PartMut.{put_mid}
 use Rattle.std.proofs.lemmas.List.{take_at, get_or-take}
 use Rattle.remora.specs.Algebras.{Meaning}
 use Rattle.remora.specs.Formulas as theory
-use Rattle.remora.specs.Questions.{Verdict, all_typed, refused_at}
 use Rattle.remora.specs.Forecasts.{limited, within_limits}
 use Rattle.remora.specs.Forecasts.{entry_of as entry_for}
-use Rattle.remora.specs.Calls.{Answer, refused}
+use Rattle.remora.specs.Calls.{refused}
 use Rattle.lines.specs.declared.refusals.Refusal.{Refusal}
-use Rattle.lines.specs.Refusals.{answer_of}
 use Rattle.shapes.specs.declared.ArrayType.{ArrayType}
 use Rattle.shapes.specs.Axes.{array_type}
 use Rattle.typing.specs.declared.found.Entry.{Entry}
@@ -18,7 +16,7 @@ use Rattle.typing.specs.Plans.{entry_of, known_in}
 use Rattle.checker.specs.declared.rows.Row.{Row}
 use Rattle.checker.specs.declared.drafts.Draft.{Draft}
 use Rattle.checker.specs.declared.forecasts.Forecast.{Forecast}
-use Rattle.checker.specs.Views.{lines_in, plans_in}
+use Rattle.checker.specs.Views.{lines_in}
 use Rattle.checker.specs.Forecasting.{room_in}
 use Rattle.checker.specs.Checking.{givens, verdict, Checked, RefusedBy, CheckedAs, refusal_of, with_rows, LimitedBy, DraftChecked}
 use Rattle.checker.proofs.Judging.{givens_length, result_found}

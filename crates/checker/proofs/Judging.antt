@@ -1,11 +1,11 @@
 -- The check of a draft, one line at a time.
-use Rattle.std.proofs.Common.{◌≡◌, ℕ, zero, suc, ◌+◌, ◌*◌, ◌^◌, ◌<◌, ◌≤◌, min, max, Bool, true, false, cond, ◌&&◌, ◌⊎◌, List, [], ◌∷◌, ◌++◌, map, length, get_or, take, drop, set, Some, None, Ok, Err, Option, sym, refl, ap, ◌∙◌, subst, inl, inr, append_assoc, append-nil, add_assoc, zero-add, arith, length-take-le}
+use Rattle.std.proofs.Common.{◌≡◌, ℕ, zero, suc, ◌+◌, ◌*◌, ◌^◌, ◌<◌, ◌≤◌, min, max, Bool, true, false, ◌⊎◌, List, [], ◌∷◌, ◌++◌, map, length, get_or, take, drop, set, Some, None, Ok, Err, Option, sym, refl, ap, ◌∙◌, subst, inl, inr, append_assoc, append-nil, add_assoc, zero-add, arith, length-take-le}
 use Rattle.std.proofs.lemmas.List.{take_more_set, map-append, drop_more, drop_all, map-set, set-get_or, get_or-map, length-map, take_all}
-use Rattle.std.proofs.lemmas.Bool.{cases_Bool, and_parts, leb-true}
-use Rattle.remora.specs.Shapes.{Shape, size, extent, allowed}
+use Rattle.std.proofs.lemmas.Bool.{cases_Bool}
+use Rattle.remora.specs.Shapes.{size, allowed}
 use Rattle.remora.specs.Algebras.{Meaning}
 use Rattle.remora.specs.Formulas as theory
-use Rattle.remora.specs.Questions.{Question, first_no, or_else, questions, questions_of, typed, typed_as, Verdict, all_typed, refused_at, before, unless, judge}
+use Rattle.remora.specs.Questions.{Question, first_no, or_else, questions, questions_of, typed, typed_as, Verdict, all_typed, refused_at, before, unless}
 use Rattle.remora.specs.Forecasts.{atoms, line_steps, lines_steps, callee_room, room_from, line_depth, deepest, if_any}
 use Rattle.remora.specs.Machine.{Plan, plan_of, plans}
 use Rattle.remora.specs.Calls.{refused}
@@ -26,7 +26,7 @@ use Rattle.checker.specs.declared.rows.Row.{Row}
 use Rattle.checker.specs.declared.forecasts.Share.{Share}
 use Rattle.checker.specs.declared.forecasts.Forecast.{Forecast}
 use Rattle.checker.specs.Views.{line_in, lines_in, plans_in}
-use Rattle.checker.specs.Forecasting.{share_for, share_of, added, room_in, no_forecast}
+use Rattle.checker.specs.Forecasting.{share_for, share_of, added, no_forecast}
 use Rattle.checker.specs.Checking.{givens, RowTyped, verdict, before_all, atoms_in, Progress, Checked, RefusedBy, CheckedAs}
 use Rattle.checker.proofs.Viewing.{lines_length}
 

@@ -1,5 +1,5 @@
 -- The types of parameters, one at a time.
-use Rattle.std.proofs.Common.{◌≡◌, ℕ, ◌+◌, ◌<◌, ◌≤◌, Bool, true, false, ◌&&◌, ltb, List, [], ◌∷◌, ◌++◌, map, length, get_or, take, drop, set, Some, None, sym, refl, ap, ◌∙◌, arith}
+use Rattle.std.proofs.Common.{◌≡◌, ℕ, ◌+◌, ◌<◌, Bool, false, ◌&&◌, ltb, List, [], ◌∷◌, ◌++◌, length, get_or, take, drop, set, Some, None, sym, ap, ◌∙◌}
 use Rattle.std.proofs.lemmas.List.{take_more_set, map-append, drop-map, drop_more, map_more, take-map}
 use Rattle.remora.specs.Shapes.{allowed}
 use Rattle.remora.specs.Algebras.{Meaning}

@@ -1,18 +1,15 @@
 -- The theory's draft and formulas after the draft and the tables were changed.
-use Rattle.std.proofs.Common.{◌≡◌, ℕ, zero, suc, ◌+◌, ◌<◌, ◌≤◌, Bool, true, false, cond, not, ◌&&◌, eqb, leb, List, [], ◌∷◌, ◌++◌, map, length, get_or, take, drop, set, sym, refl, ap, ◌∙◌, arith, length-append, length-take, length-take-le}
-use Rattle.std.proofs.lemmas.List.{take_more_set, take-set-le, take-take, get_or-take, map-append}
+use Rattle.std.proofs.Common.{◌≡◌, ℕ, zero, suc, ◌+◌, ◌<◌, ◌≤◌, Bool, true, false, ◌&&◌, eqb, leb, List, [], ◌∷◌, ◌++◌, map, length, get_or, take, set, sym, refl, ap, ◌∙◌, arith, length-take-le}
+use Rattle.std.proofs.lemmas.List.{take_more_set}
 use Rattle.std.proofs.lemmas.Bool.{and_parts, and_from, leb-true, eqb-true}
 use Rattle.remora.specs.Formulas as theory
-use Rattle.remora.specs.Machine as machine
-use Rattle.remora.specs.Numbers.{no_entry}
 use Rattle.remora.specs.Calls as calls
 use Rattle.lines.specs.declared.fields.Fields.{Fields}
 use Rattle.lines.specs.Lines.{line_with}
 use Rattle.typing.specs.declared.found.Entry.{Entry}
-use Rattle.typing.specs.Plans.{entry_of, mark_of, known_in, usable_in, planned}
+use Rattle.typing.specs.Plans.{mark_of, known_in, planned}
 use Rattle.checker.specs.declared.rows.Given.{Given}
 use Rattle.checker.specs.declared.rows.Row.{Row}
-use Rattle.checker.specs.declared.drafts.Draft.{Draft}
 use Rattle.checker.specs.declared.tables.Extent.{Extent}
 use Rattle.checker.specs.declared.tables.Tables.{Tables}
 use Rattle.checker.specs.Views.{line_in, lines_in, plans_in, kept_with, rows_of, codes_of, kept_in, formulas_of}

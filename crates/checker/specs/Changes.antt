@@ -1,15 +1,13 @@
 -- What the functions of the draft and the tables leave.
-use Rattle.std.specs.Prelude.{ℕ, ◌+◌, true, false, List, [], ◌∷◌, ◌++◌, length, take, drop, replicate, slice_index_or, slice_set}
+use Rattle.std.specs.Prelude.{ℕ, ◌+◌, true, false, List, [], ◌++◌, length, take, drop, replicate, slice_index_or, slice_set}
 use Rattle.lines.specs.declared.fields.Fields.{Fields}
 use Rattle.lines.specs.declared.given.Kind.TheVariants.{Literal}
 use Rattle.shapes.specs.declared.ArrayType.{ArrayType}
 use Rattle.shapes.specs.declared.Shape.{Shape}
 use Rattle.typing.specs.declared.found.Entry.{Entry}
 use Rattle.typing.specs.declared.found.Typed.{Typed}
-use Rattle.checker.specs.declared.rows.Given.{Given}
 use Rattle.checker.specs.declared.rows.Row.{Row}
 use Rattle.checker.specs.declared.drafts.Draft.{Draft}
-use Rattle.checker.specs.declared.tables.Extent.{Extent}
 use Rattle.checker.specs.declared.tables.Tables.{Tables}
 
 -- These written over the ones from place n on.

@@ -1,5 +1,5 @@
 -- The check of a draft's lines: the theory's verdict, what was found, and the forecasts.
-use Rattle.std.specs.Prelude.{◌≡◌, ℕ, ◌+◌, ◌*◌, ◌^◌, ◌≤◌, max, Bool, true, false, cond, List, [], ◌∷◌, ◌++◌, map, length, take, drop, Some, None, Ok, Err, Option, Result}
+use Rattle.std.specs.Prelude.{◌≡◌, ℕ, ◌+◌, ◌*◌, ◌^◌, ◌≤◌, max, true, false, cond, List, [], ◌∷◌, ◌++◌, map, length, take, drop, Some, None, Ok, Err, Option, Result}
 use Rattle.remora.specs.Algebras.{Meaning}
 use Rattle.remora.specs.Formulas as theory
 use Rattle.remora.specs.Questions.{first_no, questions, Verdict, all_typed, refused_at, before, judge}

@@ -1,5 +1,5 @@
 -- What a line adds to the forecasts, and what lines come to.
-use Rattle.std.specs.Prelude.{ℕ, zero, suc, ◌+◌, ◌*◌, min, max}
+use Rattle.std.specs.Prelude.{ℕ, ◌+◌, ◌*◌, min, max}
 use Rattle.remora.specs.Shapes.{size}
 use Rattle.remora.specs.Forecasts.{if_any}
 use Rattle.lines.specs.declared.given.Kind.{Kind}

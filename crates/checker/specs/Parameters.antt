@@ -1,5 +1,5 @@
 -- What open asks of the types of parameters.
-use Rattle.std.specs.Prelude.{◌≡◌, Bool, true, false, ◌&&◌, List, length, take, Some, None, Option, nat_le, nat_lt}
+use Rattle.std.specs.Prelude.{◌≡◌, true, false, ◌&&◌, List, length, take, Some, None, Option, nat_le, nat_lt}
 use Rattle.remora.specs.Shapes.{allowed}
 use Rattle.remora.specs.Algebras.{Meaning}
 use Rattle.remora.specs.Formulas as theory

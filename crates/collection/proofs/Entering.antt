@@ -1,5 +1,5 @@
 -- A draft that is entered, or refused from question 6 on.
-use Rattle.std.proofs.Common.{◌≡◌, ℕ, zero, suc, ◌+◌, ◌<◌, ◌≤◌, Bool, true, false, cond, not, ◌&&◌, ltb, ◌⊎◌, List, [], ◌∷◌, ◌++◌, map, length, get_or, take, Some, None, Ok, Err, Option, Result, sym, refl, ap, ◌∙◌, subst, inl, inr, arith, length-take-le}
+use Rattle.std.proofs.Common.{◌≡◌, ℕ, ◌+◌, ◌<◌, ◌≤◌, Bool, true, false, cond, not, ◌&&◌, ltb, ◌⊎◌, List, [], ◌∷◌, ◌++◌, length, take, Some, None, Ok, Err, Result, sym, refl, ap, ◌∙◌, inl, inr, arith, length-take-le}
 use Rattle.std.proofs.lemmas.List.{take-take}
 use Rattle.std.proofs.lemmas.Bool.{cases_Bool, and_from, and_left, and_right, and_parts, eq-eqb, lt-ltb, le-ltb}
 use Rattle.remora.specs.Algebras.{Meaning, Sample}
@@ -15,14 +15,14 @@ use Rattle.lines.specs.declared.refusals.Refusal.TheVariants.{NotEnterable}
 use Rattle.lines.specs.Refusals.{answer_of}
 use Rattle.typing.specs.declared.found.Entry.{Entry}
 use Rattle.typing.specs.Typings.{types_of}
-use Rattle.typing.specs.Plans.{entry_of, mark_of, known_in, usable_in}
+use Rattle.typing.specs.Plans.{known_in, usable_in}
 use Rattle.checker.specs.declared.rows.Row.{Row}
 use Rattle.checker.specs.declared.drafts.Draft.{Draft}
 use Rattle.checker.specs.declared.tables.Tables.{Tables}
 use Rattle.checker.specs.Views.{draft_of, lines_in, plans_in, kept_with, formulas_of}
 use Rattle.checker.specs.Changes.{dropped, kept}
 use Rattle.checker.specs.Sound.{sound, within, coded}
-use Rattle.checker.specs.Checking.{givens, verdict, refusal_of, with_rows, Accepted, DraftChecked}
+use Rattle.checker.specs.Checking.{verdict, refusal_of, DraftChecked}
 use Rattle.checker.proofs.Viewing.{lines_length, lines_same, lines_given, plans_same, coded_given, kept_length, kept_entry, kept_mark, kept_more}
 use Rattle.checker.proofs.Sounding.{parts, dropped_sound, dropped_other, kept_sound}
 use Rattle.collection.specs.States.{state_with}

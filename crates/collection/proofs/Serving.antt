@@ -1,24 +1,23 @@
 -- From what a call answers and leaves to the promise of the call.
-use Rattle.std.proofs.Common.{◌≡◌, ℕ, zero, suc, ◌+◌, ◌<◌, ◌≤◌, Bool, true, false, cond, not, ◌&&◌, eqb, ltb, leb, ◌⊎◌, List, [], ◌∷◌, ◌++◌, map, length, get_or, take, drop, set, Some, None, Result, sym, refl, ap, ◌∙◌, subst, inl, inr, arith, length-take-le}
+use Rattle.std.proofs.Common.{◌≡◌, ℕ, zero, suc, ◌+◌, ◌<◌, Bool, true, false, cond, ◌&&◌, ltb, leb, List, [], ◌∷◌, ◌++◌, length, get_or, take, set, Some, None, Result, sym, refl, ap, ◌∙◌, subst, arith, length-take-le}
 use Rattle.std.proofs.lemmas.List.{get_or-take, get_or-map}
-use Rattle.std.proofs.lemmas.Bool.{and_parts, ltb-true, cases_Bool, false≢true}
+use Rattle.std.proofs.lemmas.Bool.{and_parts, ltb-true}
 use Rattle.remora.specs.Algebras.{Meaning, Sample, Formed}
 use Rattle.remora.specs.Formulas as theory
 use Rattle.remora.specs.Machine.{choose}
 use Rattle.remora.specs.Numbers.{no_entry}
 use Rattle.remora.specs.Calls as calls
 use Rattle.remora.specs.Calls.{State, Call, Answer, Reply, reply, serve, refused, number, ok, states, opened, known_types, open', line, enter, scrap, withdraw, entry, slip_fits, has_space, in_order, in_use, draft_lines, codes_in, lines_kept, codes_kept}
-use Rattle.remora.specs.Histories.{Event, event, Led, Holds}
+use Rattle.remora.specs.Histories.{event, Led}
 use Rattle.remora.proofs.Deciding.{histories_go_on}
 use Rattle.remora.proofs.Holding.{every_history_holds}
 use Rattle.lines.specs.declared.fields.Fields.{Fields}
-use Rattle.lines.specs.Lines.{line_with, InOrder}
+use Rattle.lines.specs.Lines.{InOrder}
 use Rattle.lines.specs.declared.refusals.Refusal.{Refusal}
 use Rattle.typing.specs.declared.found.Entry.{Entry}
 use Rattle.typing.specs.Typings.{types_of}
-use Rattle.typing.specs.Plans.{entry_of, mark_of, known_in, usable_in}
+use Rattle.typing.specs.Plans.{entry_of, mark_of}
 use Rattle.checker.specs.declared.drafts.Draft.{Draft}
-use Rattle.checker.specs.declared.tables.Extent.{Extent}
 use Rattle.checker.specs.declared.tables.Tables.{Tables}
 use Rattle.checker.specs.declared.parameters.Parameters.{Parameters}
 use Rattle.checker.specs.Views.{draft_of, lines_in, kept_in, formulas_of}

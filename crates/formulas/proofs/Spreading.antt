@@ -1,5 +1,5 @@
 -- Cells in a frame: the axes of the whole, and whether they are allowed.
-use Rattle.std.proofs.Common.{◌≡◌, ℕ, ◌+◌, Bool, true, false, cond, ◌&&◌, leb, List, [], ◌++◌, length, sym, refl, ap, ◌∙◌, length-append}
+use Rattle.std.proofs.Common.{◌≡◌, ℕ, ◌+◌, Bool, true, false, cond, ◌&&◌, leb, List, [], ◌++◌, length, sym, ap, ◌∙◌, length-append}
 use Rattle.remora.specs.Shapes.{extent, allowed}
 use Rattle.shapes.specs.declared.Shape.{Shape}
 use Rattle.shapes.specs.Axes.{dims, shape_of, followed}

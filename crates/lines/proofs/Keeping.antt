@@ -1,17 +1,16 @@
 -- The fields that are kept of a line are the line's, and its kind is the theory's.
-use Rattle.std.proofs.Common.{◌≡◌, ℕ, ◌<◌, ◌≤◌, Bool, true, ltb, leb, List, length, take, Some, sym, refl, ap, ◌∙◌, subst, lt-ltb, le-leb}
+use Rattle.std.proofs.Common.{◌≡◌, ℕ, ◌<◌, ◌≤◌, true, ltb, leb, List, length, take, Some, sym, refl, ap, ◌∙◌, lt-ltb, le-leb}
 use Rattle.std.proofs.lemmas.Bool.{and_from}
 use Rattle.std.proofs.lemmas.List.{take_at}
 use Rattle.remora.specs.Shapes.{allowed}
 use Rattle.remora.specs.Algebras.{Meaning}
 use Rattle.remora.specs.Formulas as theory
-use Rattle.remora.specs.Calls.{in_order, unnamed_empty}
+use Rattle.remora.specs.Calls.{unnamed_empty}
 use Rattle.shapes.specs.declared.Shape.{Shape}
 use Rattle.shapes.specs.Axes.{dims}
 use Rattle.lines.specs.declared.given.Kind.{Kind}
 use Rattle.lines.specs.declared.given.Kind.TheVariants.{Literal, Parameter, Frame, Operator, Call, Fold, Append, Reverse}
-use Rattle.lines.specs.declared.fields.Fields.{Fields}
-use Rattle.lines.specs.Lines.{number_for, kind_for, padded, line_with, InOrder}
+use Rattle.lines.specs.Lines.{number_for, kind_for, padded, InOrder}
 
 -- the number of a kind is that of the theory's
 pub kind_is : (k : Kind) → theory.kind_of (number_for k) ≡ kind_for k

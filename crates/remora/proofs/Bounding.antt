@@ -7,7 +7,7 @@ use Rattle.remora.specs.Forecasts.{within_limits}
 use Rattle.remora.specs.Evaluation.{Fault, Outcome, yields, faults}
 use Rattle.remora.specs.Numbers.{known, outcome, AllTyped}
 use Rattle.remora.specs.Machine.{Activation, put, Snapshot, at, more, done, faulted, step}
-use Rattle.remora.specs.Calls.{Run, absent, going, finished, broken, State, empty, entry_at, plan_at, with_run, Call, line, begin, step', result, close, Answer, number, fault, is_done, goes_on, Reply, reply, refusal, parameter_atoms, codes_fit, samples_for, needs, first_activation, begin_questions, begins_run, result_questions, writes_result, close_questions, ends_run, progressed, serve_step, serve_result, serve}
+use Rattle.remora.specs.Calls.{Run, absent, going, finished, broken, State, empty, entry_at, plan_at, with_run, Call, begin, step', result, close, Answer, number, fault, is_done, goes_on, Reply, reply, refusal, parameter_atoms, codes_fit, samples_for, needs, first_activation, begin_questions, begins_run, result_questions, writes_result, close_questions, ends_run, progressed, serve_step, serve_result, serve}
 use Rattle.remora.specs.Histories.{Event, event, Leads, Reading, unread, read_call, read_from, activations, reach, Untouched, EveryRunBounded}
 use Rattle.remora.proofs.Regions.{Same, put_same}
 use Rattle.remora.proofs.Running.{store_of, activations_of, Plans, Runs, stay, move, goods_all}

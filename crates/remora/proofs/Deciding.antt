@@ -1,5 +1,5 @@
 -- The theorems on typing, evaluation and the course of histories.
-use Rattle.std.proofs.Common.{◌≡◌, ℕ, suc, ◌+◌, Bool, List, [], ◌∷◌, ◌++◌, length, Some, None, Option, sym, refl, ap, ◌∙◌, subst, append_assoc, append-nil, add-zero, add-one, arith, length-append}
+use Rattle.std.proofs.Common.{◌≡◌, ℕ, suc, Bool, List, [], ◌∷◌, ◌++◌, length, Some, None, Option, sym, refl, ap, ◌∙◌, subst, append_assoc, append-nil, add-zero, add-one, arith, length-append}
 use Rattle.remora.specs.Shapes.{size}
 use Rattle.remora.specs.Algebras.{Sample, Meaning}
 use Rattle.remora.specs.Formulas.{ArrayType, Line, Entry, TypedLine, type_of, types_of}

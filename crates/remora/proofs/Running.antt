@@ -5,7 +5,7 @@ use Rattle.std.proofs.lemmas.Bool.{lt-ltb, le-ltb, cases_eq, eq-eqb, ne_eqb}
 use Rattle.remora.specs.Shapes.{Shape, size}
 use Rattle.remora.specs.Algebras.{Sample, Meaning}
 use Rattle.remora.specs.Formulas.{ArrayType, shaped, no_type, Formula, Entry, primitive, formula, fold, append, reversal, TypedLine, literal, parameter, frame, application, type_of, types_of, last_or, result_type}
-use Rattle.remora.specs.Evaluation.{Array, array_of, no_array, Fault, Outcome, yields, faults, Cells, all, upto, before, collapse, map_cells, cells_at, eval_line, onward, eval_lines}
+use Rattle.remora.specs.Evaluation.{Array, array_of, no_array, Fault, Outcome, yields, faults, Cells, all, upto, collapse, map_cells, cells_at, eval_line, onward, eval_lines}
 use Rattle.remora.specs.Forecasts.{atoms, line_steps, lines_steps, if_any, callee_room, room_from, line_depth, deepest}
 use Rattle.remora.specs.Numbers.{pick, lines_of, known, eval, arguments}
 use Rattle.remora.specs.Machine.{Plan, no_plan, plan_of, plans, part, put, Activation, activation, is_parameter, place_of, sources, cell_places, on_samples, Snapshot, at, more, done, faulted, choose, settle, return, step_line, step}

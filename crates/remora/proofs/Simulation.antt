@@ -1,10 +1,9 @@
 -- Evaluation on samples is evaluation on codes; every code is of its base type, and every cause is the algebra's own.
-use Rattle.std.proofs.Common.{◌≡◌, ℕ, zero, suc, ◌+◌, ◌-◌, ◌<◌, ◌≤◌, Bool, true, false, ◌⊎◌, List, [], ◌∷◌, ◌++◌, map, reverse, length, get_or, take, drop, replicate, is_some, Some, None, Option, sym, refl, ap, ◌∙◌, subst, inl, inr, arith}
+use Rattle.std.proofs.Common.{◌≡◌, ℕ, zero, suc, ◌+◌, ◌<◌, ◌≤◌, Bool, true, false, ◌⊎◌, List, [], ◌∷◌, ◌++◌, map, reverse, length, get_or, take, drop, replicate, is_some, Some, None, Option, sym, refl, ap, ◌∙◌, subst, inl, inr, arith}
 use Rattle.std.proofs.lemmas.List.{map-append, map-id, take-map, drop-map, reverse-append}
 use Rattle.std.proofs.lemmas.Bool.{cases_eq, and_from, eq-eqb, lt-ltb, both_ways}
 use Rattle.remora.specs.Shapes.{Shape, size, frame_of}
 use Rattle.remora.specs.Algebras.{Sample, sample_of, Assigned, gives, fails, Meaning, all_held, Legal, UnitFits, Formed, of_assigned, of_bases, codes_of, applied}
-use Rattle.remora.specs.Algebras as algebras
 use Rattle.remora.specs.Formulas.{ArrayType, shaped, no_type, Formula, Entry, Function, primitive, formula, fold, append, reversal, scalars, cells, result_cell, TypedLine, literal, parameter, frame, application, type_of, last_or}
 use Rattle.remora.specs.Typing.{InSet, Alike, no_operand, operand}
 use Rattle.remora.specs.Evaluation.{split, rep, concat, Array, array_of, no_array, items_at, Fault, Outcome, yields, faults, Cells, all, upto, Attempt, value, failed, and_then, Operations, attempted, unit_code, on_codes, repeats, lift, cell_at, cells_at, firsts, combined, fold_from, told, apply_cell, collapse, map_cells, joined, eval_line, onward, eval_lines}

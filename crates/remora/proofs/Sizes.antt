@@ -1,5 +1,5 @@
 -- A typed line, and a typed formula, gives as many items as its shape's size.
-use Rattle.std.proofs.Common.{◌≡◌, ℕ, zero, suc, ◌+◌, ◌-◌, ◌*◌, ◌/◌, ◌<◌, ◌≤◌, Bool, true, ◌⊎◌, List, [], ◌∷◌, ◌++◌, reverse, length, get_or, drop, is_some, sym, refl, ap, ◌∙◌, inl, inr, append_assoc, append-nil, suc-mul, add-mul, zero-mul, arith, length-append, length-drop}
+use Rattle.std.proofs.Common.{◌≡◌, ℕ, zero, suc, ◌+◌, ◌*◌, ◌/◌, ◌<◌, ◌≤◌, Bool, true, ◌⊎◌, List, [], ◌∷◌, ◌++◌, reverse, length, get_or, drop, is_some, sym, refl, ap, ◌∙◌, inl, inr, append_assoc, append-nil, suc-mul, add-mul, zero-mul, arith, length-append, length-drop}
 use lib.ListN.{length-replicate}
 use Rattle.std.proofs.lemmas.Bool.{eq-eqb, ne_eqb, cases_eq}
 use Rattle.std.proofs.lemmas.List.{length-map, reverse-append}

@@ -1,5 +1,5 @@
 -- What reading gives: the codes of all words, or the first word that is no count.
-use Rattle.std.specs.Prelude.{◌≡◌, ℕ, ◌+◌, List, [], ◌∷◌, ◌++◌, map, length, Ok, Err, string_bytes, Result}
+use Rattle.std.specs.Prelude.{◌≡◌, ℕ, ◌+◌, List, ◌∷◌, ◌++◌, map, length, Ok, Err, string_bytes, Result}
 use Rattle.std.specs.List.{AllByRecursion as All}
 use Rattle.traces.specs.declared.reading.TraceError.{TraceError}
 use Rattle.traces.specs.declared.reading.TraceError.TheVariants.{NoCount, NoMemory}

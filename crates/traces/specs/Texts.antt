@@ -1,5 +1,5 @@
 -- What the text of a trace says: its lines, their words, and the count of each word.
-use Rattle.std.specs.Prelude.{◌≡◌, ℕ, Bool, true, false, cond, not, List, [], ◌∷◌, ◌++◌, map, length, filter, FitsSigned, ◌==◌}
+use Rattle.std.specs.Prelude.{◌≡◌, ℕ, Bool, false, cond, not, List, [], ◌∷◌, ◌++◌, map, length, filter, FitsSigned, ◌==◌}
 use Rattle.std.specs.Int.{w32}
 use Rattle.std.specs.Char.{char_set_contains}
 use Rattle.std.specs.Str.Parse.{IsNumeral, without_leading_sign, signed_digits_value}

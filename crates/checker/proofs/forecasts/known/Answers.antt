@@ -1,5 +1,5 @@
 -- A formula that was given, or none.
-use Rattle.std.proofs.Common.{sym, refl, ◌∙◌, arith}
+use Rattle.std.proofs.Common.{sym, arith}
 use Rattle.std.proofs.lemmas.List.{get_or-map, get_or_past, length-map}
 use Rattle.remora.specs.Numbers.{no_entry}
 use Rattle.typing.specs.Plans.{entry_of}

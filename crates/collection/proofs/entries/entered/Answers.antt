@@ -1,5 +1,5 @@
 -- The draft is entered, or one of the questions is answered by no.
-use Rattle.std.proofs.Common.{◌<◌, List, Ok, Err, ap, ◌∙◌, subst, inl, inr, arith}
+use Rattle.std.proofs.Common.{◌<◌, List, Ok, Err, ◌∙◌, subst, inl, inr, arith}
 use Rattle.std.proofs.lemmas.Result.{err_from_is_err_and}
 use Rattle.typing.specs.declared.found.Entry.{Entry}
 use Rattle.checker.specs.Changes.{kept}

@@ -1,5 +1,5 @@
 -- One frame more, or the first that does not agree.
-use Rattle.std.proofs.Common.{◌≡◌, ℕ, ◌+◌, List, get_or, sym, ap, ◌∙◌, arith}
+use Rattle.std.proofs.Common.{ℕ, ◌+◌, List, get_or, sym, ap, ◌∙◌, arith}
 use Rattle.remora.specs.Shapes.{frame_of, agree, principal}
 use Rattle.remora.specs.Questions.{frames}
 use Rattle.shapes.specs.Axes.{dims}

@@ -1,5 +1,5 @@
 -- Each line goes from what is left to what was read.
-use Rattle.std.proofs.Common.{◌≡◌, ℕ, true, false, List, [], ◌∷◌, ◌++◌, vec_items, sym, ap, ◌∙◌, subst, arith}
+use Rattle.std.proofs.Common.{◌≡◌, true, [], vec_items, sym, ap, ◌∙◌, subst, arith}
 use Rattle.std.specs.Str.Iter.{split_text, split_has_more, split_parts_left, split_pattern}
 use Rattle.std.proofs.lemmas.Result.{err_from_is_err_and}
 use Rattle.traces.specs.Texts.{lines, ends}

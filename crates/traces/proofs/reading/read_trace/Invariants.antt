@@ -1,5 +1,5 @@
 -- Some lines were read, the others are left, and there are no more lines than places in the text.
-use Rattle.std.proofs.Common.{◌≡◌, ℕ, ◌+◌, ◌≤◌, vec_items}
+use Rattle.std.proofs.Common.{◌≡◌, ◌+◌, ◌≤◌, vec_items}
 use Rattle.std.specs.Str.Iter.{split_text, split_has_more, split_pattern}
 use Rattle.traces.specs.Texts.{lines, ends}
 use Rattle.traces.proofs.Cuts.{remaining}

@@ -1,5 +1,5 @@
 -- Each piece goes from what is left to what was read.
-use Rattle.std.proofs.Common.{◌≡◌, ℕ, true, false, List, [], ◌∷◌, ◌++◌, vec_items, sym, ap, ◌∙◌, subst}
+use Rattle.std.proofs.Common.{◌≡◌, true, [], vec_items, sym, ap, ◌∙◌, subst}
 use Rattle.std.specs.Char.{char_set_contains}
 use Rattle.std.specs.Str.Iter.{split_text, split_has_more, split_pattern}
 use Rattle.std.proofs.lemmas.Result.{err_from_is_err_and}

@@ -2,7 +2,7 @@
 use Rattle.std.proofs.Common.{◌≡◌, ℕ, ◌-◌, List, [], length, get_or, take, drop, ap, ◌∙◌, arith}
 use Rattle.remora.specs.Formulas as theory
 use Rattle.remora.specs.Formulas.{shaped}
-use Rattle.remora.specs.Questions.{earlier, type_at, first_axis}
+use Rattle.remora.specs.Questions.{type_at, first_axis}
 use Rattle.shapes.specs.Axes.{dims}
 use Rattle.lines.specs.Lines.{number_for}
 use Rattle.typing.specs.Typings.{types_of}

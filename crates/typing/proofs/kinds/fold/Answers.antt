@@ -1,7 +1,6 @@
 -- The operator's signature says the base type and the unit.
 use Rattle.std.proofs.Common.{[], length, take, sym, ap, ◌∙◌, arith}
 use Rattle.remora.specs.Formulas.{shaped}
-use Rattle.remora.specs.Questions.{earlier}
 use Rattle.shapes.specs.Axes.{dims}
 use Rattle.lines.specs.Lines.{number_for}
 use Rattle.typing.specs.Typings.{types_of}

@@ -2,7 +2,7 @@
 use Rattle.std.proofs.Common.{◌≡◌, ℕ, List, [], ◌∷◌, length, get_or, take, ap, ◌∙◌, subst}
 use Rattle.remora.specs.Formulas as theory
 use Rattle.remora.specs.Formulas.{shaped}
-use Rattle.remora.specs.Questions.{earlier, type_at}
+use Rattle.remora.specs.Questions.{type_at}
 use Rattle.shapes.specs.Axes.{dims}
 use Rattle.lines.specs.Lines.{number_for}
 use Rattle.typing.specs.Typings.{types_of}

@@ -1,5 +1,5 @@
 -- The codes are written behind those that there are.
-use Rattle.std.proofs.Common.{ℕ, ◌+◌, List, length, set}
+use Rattle.std.proofs.Common.{◌+◌, length, set}
 use Rattle.checker.specs.Changes.{row_with}
 use Rattle.checker.proofs.Pasting.{pasted_is}
 use Rattle.checker.proofs.drafts.Draft.add.Goals as goal

@@ -1,5 +1,5 @@
 -- The lines are typed and the forecasts held against the limits, or the first no is told.
-use Rattle.std.proofs.Common.{◌≡◌, ℕ, ◌-◌, ◌≤◌, length, take, ap, ◌∙◌, arith, rules}
+use Rattle.std.proofs.Common.{◌≡◌, ℕ, ◌-◌, length, take, ap, arith, rules}
 use Rattle.std.proofs.lemmas.Result.{err_from_is_err_and}
 use Rattle.checker.proofs.Pasting.{take_clamped}
 use Rattle.checker.proofs.Drafting.{check_refused, check_done}

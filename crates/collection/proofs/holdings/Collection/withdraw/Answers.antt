@@ -2,7 +2,6 @@
 use Rattle.std.proofs.Common.{ltb, length, sym, ◌∙◌}
 use Rattle.std.proofs.lemmas.Bool.{and_parts}
 use Rattle.checker.specs.Views.{formulas_of}
-use Rattle.checker.proofs.Sounding.{withdrawn_sound}
 use Rattle.collection.proofs.Serving.{given_few, withdraw_not, withdraw_done}
 use Rattle.collection.proofs.holdings.Collection.withdraw.Goals as goal
 

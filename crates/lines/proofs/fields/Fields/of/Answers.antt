@@ -1,5 +1,5 @@
 -- Every part of the question is answered by yes, and nothing of the line is lost.
-use Rattle.std.proofs.Common.{◌≡◌, ◌<◌, sym, ◌∙◌, arith, rules}
+use Rattle.std.proofs.Common.{◌<◌, sym, ◌∙◌, rules}
 use Rattle.lines.specs.Lines.{line_of}
 use Rattle.lines.proofs.Keeping.{kept}
 use Rattle.lines.proofs.fields.Fields.of.Goals as goal
