@@ -1,6 +1,6 @@
 // The public calls on drafts and numbers.
 ghost use Rattle.std.specs.Prelude.{◌≡◌, ◌+◌, ◌&&◌, length, nat_le, nat_lt};
-ghost use Rattle.remora.specs.Calls.{open', line as lineCall, enter as enterCall, scrap as scrapCall, withdraw as withdrawCall, entry as entryCall, in_use};
+ghost use Rattle.remora.specs.Calls.{open', line as line_call, enter as enter_call, scrap as scrap_call, withdraw as withdraw_call, entry as entry_call, in_use};
 ghost use Rattle.lines.specs.Lines.{line_of, types_given};
 ghost use Rattle.collection.specs.States.{state_of};
 ghost use Rattle.collection.specs.Promises.{Serves, Begins, Lent, slipped, numbered, finished, stated};
@@ -54,7 +54,7 @@ impl<A: Algebra> Collection<A> {
 
     /// Adds a line to the draft and answers its number.
     pub fn line(&mut self, slip: &Slip, line: &Line) -> Result<u32, Refusal>
-        ensures { Serves A.meaning (state_of self.old) (lineCall slip.now.serial (line_of line.now)) (numbered result) (state_of self.new) }
+        ensures { Serves A.meaning (state_of self.old) (line_call slip.now.serial (line_of line.now)) (numbered result) (state_of self.new) }
     {
         if !self.draft.has(slip.serial) {
             return Err(Refusal::WrongSlip);
@@ -72,7 +72,7 @@ impl<A: Algebra> Collection<A> {
 
     /// Gives the draft the next number, which is answered. A refusal from question 6 on drops the draft; the slip is used up in any case.
     pub fn enter(&mut self, slip: Slip) -> Result<u32, Refusal>
-        ensures { Serves A.meaning (state_of self.old) (enterCall slip.serial) (numbered result) (state_of self.new) }
+        ensures { Serves A.meaning (state_of self.old) (enter_call slip.serial) (numbered result) (state_of self.new) }
     {
         let Slip { serial } = slip;
         if !self.draft.has(serial) {
@@ -85,7 +85,7 @@ impl<A: Algebra> Collection<A> {
 
     /// Drops the draft. The slip is used up in any case.
     pub fn scrap(&mut self, slip: Slip) -> Result<(), Refusal>
-        ensures { Serves A.meaning (state_of self.old) (scrapCall slip.serial) (finished result) (state_of self.new) }
+        ensures { Serves A.meaning (state_of self.old) (scrap_call slip.serial) (finished result) (state_of self.new) }
     {
         let Slip { serial: held } = slip;
         if !self.draft.has(held) {
@@ -111,7 +111,7 @@ impl<A: Algebra> Collection<A> {
 
     /// Marks a number as withdrawn; formulas that call it go on working.
     pub fn withdraw(&mut self, number: u32) -> Result<(), Refusal>
-        ensures { Serves A.meaning (state_of self.old) (withdrawCall number) (finished result) (state_of self.new) }
+        ensures { Serves A.meaning (state_of self.old) (withdraw_call number) (finished result) (state_of self.new) }
     {
         if !self.in_use(number) {
             return Err(Refusal::NotInUse);
@@ -122,7 +122,7 @@ impl<A: Algebra> Collection<A> {
 
     /// Writes what is known of a number to the lent record.
     pub fn entry(&self, number: u32, out: &mut Entry) -> Result<(), Refusal>
-        ensures told { Serves A.meaning (state_of self.now) (entryCall number) (stated result out.new) (state_of self.now) }
+        ensures told { Serves A.meaning (state_of self.now) (entry_call number) (stated result out.new) (state_of self.now) }
         ensures lent { Lent result out.old out.new }
     {
         if !self.is_given(number) {

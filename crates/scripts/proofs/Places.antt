@@ -1,6 +1,6 @@
 -- Names that a word is not, and where a text is cut.
 use Rattle.std.proofs.Common.{◌≡◌, ℕ, ◌+◌, ◌<◌, Bool, true, false, cond, List, [], ◌∷◌, ◌++◌, length, get_or, Some, None, Option, refl, ap, ◌∙◌, Bor, MatchOption}
-use Rattle.std.specs.List.{AllByRecursion as All}
+use Rattle.std.specs.List.{AllByRecursion}
 use Rattle.std.specs.Str.{bytes_eq}
 use Rattle.std.proofs.ByRecursion.{All-from_get_or}
 use Rattle.std.proofs.lemmas.Slice.Eq.{bytes_eq-Decides}
@@ -18,17 +18,17 @@ differs w x h = go (bytes_eq w x) refl
     go true e = absurd (h ((bytes_eq-Decides w x).0 e))
 
 -- A word that is none of these names has no place among them.
-pub place_none : (names : List (List ℕ)) (n : ℕ) (w : List ℕ) → All (λ x. w ≡ x → ⊥) names → place_in names n w ≡ None
+pub place_none : (names : List (List ℕ)) (n : ℕ) (w : List ℕ) → AllByRecursion (λ x. w ≡ x → ⊥) names → place_in names n w ≡ None
 place_none [] n w h = refl
 place_none (x ∷ xs) n w h = ap (λ v. cond v (Some n) (place_in xs (n + 1) w)) (differs w x h.0) ∙ place_none xs (n + 1) w h.1
 
 -- A text with no such byte is not cut.
-cut_none : (c : ℕ) (bs : List ℕ) → All (λ b. b ≡ c → ⊥) bs → cut_at c bs ≡ None
+cut_none : (c : ℕ) (bs : List ℕ) → AllByRecursion (λ b. b ≡ c → ⊥) bs → cut_at c bs ≡ None
 cut_none c [] h = refl
 cut_none c (b ∷ bs) h = ap (λ v. cond v (Some ([], bs)) (grown_front b (cut_at c bs))) (ne_eqb b c h.0) ∙ ap (grown_front b) (cut_none c bs h.1)
 
 -- The first such byte cuts the text.
-cut_some : (c : ℕ) (xs ys : List ℕ) → All (λ b. b ≡ c → ⊥) xs → cut_at c (xs ++ (c ∷ ys)) ≡ Some (xs, ys)
+cut_some : (c : ℕ) (xs ys : List ℕ) → AllByRecursion (λ b. b ≡ c → ⊥) xs → cut_at c (xs ++ (c ∷ ys)) ≡ Some (xs, ys)
 cut_some c [] ys h = ap (λ v. cond v (Some ([], ys)) (grown_front c (cut_at c ys))) (eq-eqb c c refl)
 cut_some c (b ∷ xs) ys h =
     ap (λ v. cond v (Some ([], xs ++ (c ∷ ys))) (grown_front b (cut_at c (xs ++ (c ∷ ys))))) (ne_eqb b c h.0)
@@ -43,11 +43,11 @@ cut_split c bs r h l = go r (split_parts c bs r h l)
     go (Some x) f = ap (cut_at c) f.0 ∙ cut_some c x.0.now x.1.now (All-from_get_or (λ b. b ≡ c → ⊥) x.0.now 0 f.1)
 
 -- A word that is none of these names is not among them.
-pub is_in_none : (names : List (List ℕ)) (w : List ℕ) → All (λ x. w ≡ x → ⊥) names → is_in names w ≡ false
+pub is_in_none : (names : List (List ℕ)) (w : List ℕ) → AllByRecursion (λ x. w ≡ x → ⊥) names → is_in names w ≡ false
 is_in_none [] w h = refl
 is_in_none (x ∷ xs) w h = ap (λ v. cond v true (is_in xs w)) (differs w x h.0) ∙ is_in_none xs w h.1
 
 -- A word that is none of the names of a table has nothing there.
-pub lookup_none : {X : Type 0} (xs : List (List ℕ × X)) (w : List ℕ) → All (λ x. w ≡ x.0 → ⊥) xs → lookup xs w ≡ None
+pub lookup_none : {X : Type 0} (xs : List (List ℕ × X)) (w : List ℕ) → AllByRecursion (λ x. w ≡ x.0 → ⊥) xs → lookup xs w ≡ None
 lookup_none [] w h = refl
 lookup_none (x ∷ xs) w h = ap (λ v. cond v (Some x.1) (lookup xs w)) (differs w x.0 h.0) ∙ lookup_none xs w h.1

@@ -83,7 +83,7 @@ mod tests {
             told(rt.alloc(), "run 5000000000 codes=[1]")?.as_str() == "Run(4294967295, Given([1]))"
         );
         let file = read_numbers(rt.alloc(), "1,2\r\n\n 18446744073709551615\t")?;
-        assert!(rt; file.as_slice() == &[1, 2, 18446744073709551615]);
+        assert!(rt; file.as_slice() == [1, 2, 18446744073709551615].as_slice());
         assert_eq!(rt; number_of("18446744073709551616"), None);
         assert_eq!(rt; number_of("+1"), None);
         assert_eq!(rt; number_of(""), None);

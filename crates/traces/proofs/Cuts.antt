@@ -3,7 +3,7 @@ use Rattle.std.proofs.Common.{◌≡◌, ℕ, ◌<◌, Bool, true, false, cond, 
 use Rattle.std.specs.Char.{char_set_contains}
 use Rattle.std.specs.Str.Pattern.{FindsBy, FindsChar, IsSplitAtFirstMatch, HasCharAt}
 use Rattle.std.specs.Str.{NoCharPasses}
-use Rattle.std.specs.List.{AllByRecursion as All}
+use Rattle.std.specs.List.{AllByRecursion}
 use Rattle.std.proofs.lemmas.List.Elements.{filter-append}
 use Rattle.std.proofs.ByRecursion.{All-from_get_or}
 use Rattle.std.proofs.lemmas.List.{take-append-drop}
@@ -17,7 +17,7 @@ remaining t live text = cond live (pieces t text) []
 
 -- No byte passes the test.
 abbrev Whole : (ℕ → Bool) → List ℕ → Type 0
-Whole t p = All (λ b. t b ≡ false) p
+Whole t p = AllByRecursion (λ b. t b ≡ false) p
 
 -- A text that no byte cuts is one piece.
 pieces_none : (t : ℕ → Bool) (p : List ℕ) → Whole t p → pieces t p ≡ p ∷ []

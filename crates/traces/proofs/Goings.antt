@@ -1,6 +1,6 @@
 -- How far reading has come: through the words of a line, and through the lines of a text.
 use Rattle.std.proofs.Common.{◌≡◌, ℕ, ◌+◌, List, [], ◌∷◌, ◌++◌, map, length, string_bytes, sym, refl, ap, ◌∙◌, subst, append_assoc, append-nil}
-use Rattle.std.specs.List.{AllByRecursion as All}
+use Rattle.std.specs.List.{AllByRecursion}
 use Rattle.std.proofs.ByRecursion.{All-append, All-push}
 use Rattle.std.proofs.lemmas.List.{length_push}
 use Rattle.traces.specs.declared.reading.TraceError.{TraceError}
@@ -12,7 +12,7 @@ use Rattle.traces.specs.Texts.{Count, Sound, FirstBad, code, codes, words}
 pub record Gone (all left : List (List ℕ)) (start end : List ℕ) : Type 0 where
   pub seen : List (List ℕ)
   pub split : all ≡ seen ++ left
-  pub good : All Count seen
+  pub good : AllByRecursion Count seen
   pub said : end ≡ start ++ map code seen
 
 -- The codes of words in a row.
@@ -26,7 +26,7 @@ gone_none all start = record { seen = []; split = refl; good = tt; said = sym (a
 
 module _ {all left : List (List ℕ)} {start mid : List ℕ} (old : Gone all left start mid) (ws rest : List (List ℕ)) (cut : left ≡ ws ++ rest) where
   -- Some words more were read.
-  pub gone_more : (end : List ℕ) → All Count ws → end ≡ mid ++ map code ws → Gone all rest start end
+  pub gone_more : (end : List ℕ) → AllByRecursion Count ws → end ≡ mid ++ map code ws → Gone all rest start end
   gone_more end good said = record {
     seen = old.seen ++ ws;
     split = old.split ∙ ap (λ l. old.seen ++ l) cut ∙ sym (append_assoc old.seen ws rest);
@@ -47,16 +47,16 @@ module _ {all left : List (List ℕ)} {start mid : List ℕ} (old : Gone all lef
       )
 
 -- Nothing is left.
-pub gone_all : {all : List (List ℕ)} {start end : List ℕ} → Gone all [] start end → All Count all × (end ≡ start ++ map code all)
+pub gone_all : {all : List (List ℕ)} {start end : List ℕ} → Gone all [] start end → AllByRecursion Count all × (end ≡ start ++ map code all)
 gone_all {all} {start} {end} old =
     let same : old.seen ≡ all = sym (old.split ∙ append-nil old.seen) in
-    (subst (All Count) same old.good, old.said ∙ ap (λ l. start ++ map code l) same)
+    (subst (AllByRecursion Count) same old.good, old.said ∙ ap (λ l. start ++ map code l) same)
 
 -- Of these lines so many were read, and the others are left.
 pub record Through (all left : List (List ℕ)) (number : ℕ) (end : List ℕ) : Type 0 where
   pub seen : List (List ℕ)
   pub split : all ≡ seen ++ left
-  pub good : All Sound seen
+  pub good : AllByRecursion Sound seen
   pub said : end ≡ codes seen
   pub count : number ≡ length seen
 
@@ -81,10 +81,10 @@ module _ {all left : List (List ℕ)} {number : ℕ} {mid : List ℕ} (old : Thr
   }
 
 -- No line is left.
-pub through_all : {all : List (List ℕ)} {number : ℕ} {end : List ℕ} → Through all [] number end → All Sound all × (end ≡ codes all)
+pub through_all : {all : List (List ℕ)} {number : ℕ} {end : List ℕ} → Through all [] number end → AllByRecursion Sound all × (end ≡ codes all)
 through_all {all} old =
     let same : old.seen ≡ all = sym (old.split ∙ append-nil old.seen) in
-    (subst (All Sound) same old.good, old.said ∙ ap codes same)
+    (subst (AllByRecursion Sound) same old.good, old.said ∙ ap codes same)
 
 -- The error of some words is that of all.
 pub blamed : {all left : List (List ℕ)} {start mid : List ℕ} → Gone all left start mid → (ws rest : List (List ℕ)) → left ≡ ws ++ rest → (number : ℕ) (e : TraceError) → Blames e number ws → Blames e number all

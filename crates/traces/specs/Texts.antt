@@ -3,7 +3,7 @@ use Rattle.std.specs.Prelude.{◌≡◌, ℕ, Bool, false, cond, not, List, [], 
 use Rattle.std.specs.Int.{w32}
 use Rattle.std.specs.Char.{char_set_contains}
 use Rattle.std.specs.Str.Parse.{IsNumeral, without_leading_sign, signed_digits_value}
-use Rattle.std.specs.List.{AllByRecursion as All}
+use Rattle.std.specs.List.{AllByRecursion}
 use Rattle.counts.specs.Tables.{wrapped}
 
 -- A byte stands before the first of these pieces.
@@ -55,7 +55,7 @@ code word = wrapped (signed_digits_value 10 word)
 
 -- Each word of a line is a count.
 abbrev pub Sound : List ℕ → Type 0
-Sound line = All Count (words line)
+Sound line = AllByRecursion Count (words line)
 
 -- The codes that these lines say.
 abbrev pub codes : List (List ℕ) → List ℕ
@@ -64,4 +64,4 @@ codes (l ∷ ls) = map code (words l) ++ codes ls
 
 -- Among these words this is the first that is no count.
 abbrev pub FirstBad : List (List ℕ) → List ℕ → Type 0
-FirstBad ws w = (before : List (List ℕ)) × (after : List (List ℕ)) × (ws ≡ before ++ (w ∷ after)) × All Count before × (Count w → ⊥)
+FirstBad ws w = (before : List (List ℕ)) × (after : List (List ℕ)) × (ws ≡ before ++ (w ∷ after)) × AllByRecursion Count before × (Count w → ⊥)

@@ -1,7 +1,7 @@
 // Reading a trace from text: lines of words, each word a count in decimal.
 ghost use Rattle.std.specs.Prelude.{◌≡◌, [], ◌∷◌, MatchResult};
 ghost use Rattle.std.specs.Option.{SomeIff};
-ghost use Rattle.std.specs.List.{AllByRecursion as All};
+ghost use Rattle.std.specs.List.{AllByRecursion};
 ghost use Rattle.traces.specs.declared.reading.TraceError.TheVariants.{NoMemory};
 ghost use Rattle.traces.specs.Texts.{lines, words, words_in, pieces, parts, comment, Count, Sound, code, codes as codes_of};
 ghost use Rattle.traces.specs.Readings.{Told, Refuses};
@@ -112,7 +112,7 @@ fn read_line(
 ///
 /// Words are parted by blanks, tabs, commas and carriage returns; the first word that is no count is told with its line.
 pub fn read_trace(heap: Global, text: &str) -> Result<Vec<u32>, TraceError>
-    ensures { MatchResult result (λ v. All Sound (lines text.now) × (v.items ≡ codes_of (lines text.now))) (λ e. Refuses (lines text.now) e) }
+    ensures { MatchResult result (λ v. AllByRecursion Sound (lines text.now) × (v.items ≡ codes_of (lines text.now))) (λ e. Refuses (lines text.now) e) }
 {
     let mut codes = Vec::new(heap);
     let mut number = 0;
