@@ -12,7 +12,9 @@ pub(crate) fn entered<A: Algebra>(draft: &mut Draft, tables: &mut Tables) -> Res
     requires { sound draft.old tables.old ≡ true }
     ensures { Entered A.meaning draft.old tables.old result draft.new tables.new }
 {
-    if draft.height == 0 || tables.count >= 64 {
+    let empty = draft.height == 0;
+    let full = tables.count >= 64;
+    if empty || full {
         return Err(Refusal::NotEnterable);
     }
     let entry = draft.check::<A>(tables.known())?;

@@ -66,11 +66,7 @@ impl Fields {
     pub fn operands(&self) -> &[u32]
         ensures { result.now ≡ take self.now.count self.now.operands }
     {
-        let count = if self.count < 4 {
-            self.count as usize
-        } else {
-            4
-        };
+        let count = (self.count as usize).min(4);
         &self.operands[0..count]
     }
 }

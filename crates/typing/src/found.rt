@@ -32,11 +32,7 @@ impl Entry {
     pub fn parameters(&self) -> &[ArrayType]
         ensures { result.now ≡ take self.now.count self.now.all }
     {
-        let count = if self.count < 4 {
-            self.count as usize
-        } else {
-            4
-        };
+        let count = (self.count as usize).min(4);
         &self.all[0..count]
     }
 }

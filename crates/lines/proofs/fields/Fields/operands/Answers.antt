@@ -1,14 +1,16 @@
 -- More than four operands count as four, since the array has four places.
-use Rattle.std.proofs.Common.{◌≡◌, ℕ, ◌-◌, length, take, sym, ap, ◌∙◌, arith, rules}
+use Rattle.std.proofs.Common.{◌≡◌, ℕ, ◌-◌, min, length, take, sym, ap, ◌∙◌, inl, inr, arith, rules}
+use Rattle.std.proofs.lemmas.Bool.{cases_lt}
 use Rattle.std.proofs.lemmas.List.{take_all}
-use Rattle.lines.proofs.fields.Fields.operands.Goals.{then-self-lt4, else-self-lt4}
 use Rattle.lines.proofs.fields.Fields.operands.Goals as goal
 
 pub returns : goal.returns
 returns c =
     let all = c.args.self.now.operands in
+    let n : ℕ = c.args.self.now.count in
     let four : length all ≡ 4 = search rules in
-    elim c.if-self-lt4.branch [
-      | then-self-lt4 w ↦ ap (λ (n : ℕ). take n all) (omega (arith, w.count-is))
-      | else-self-lt4 w ↦ take_all (c.if-self-lt4.count - 0) all (omega (arith, w.count-is)) ∙ sym (take_all c.args.self.now.count all (omega (arith, w.if-self-lt4)))
+    let least : c.min-count.result ≡ min n 4 = c.min-count.ensures in
+    elim (cases_lt n 4) [
+      | inl h ↦ ap (λ (k : ℕ). take k all) (omega arith)
+      | inr h ↦ take_all (c.min-count.result - 0) all (omega arith) ∙ sym (take_all n all (omega arith))
     ]
