@@ -1,38 +1,34 @@
--- The tests of the prefix order, found axis by axis.
-use Rattle.std.proofs.Common.{◌≡◌, ℕ, zero, suc, ◌<◌, ◌≤◌, Bool, true, false, ◌&&◌, eqb, List, [], ◌∷◌, length, get_or, refl, ap, arith}
-use Rattle.std.proofs.lemmas.Bool.{and_from, and_left, and_right, eq-eqb, ne_eqb}
-use Rattle.remora.specs.Shapes.{same, begins}
-
--- A shape begins another if it is no longer and each axis of it is the other's.
-pub begins_yes : (f s : List ℕ) → length f ≤ length s → ((k : ℕ) → k < length f → get_or f k 0 ≡ get_or s k 0) → begins f s ≡ true
-begins_yes [] s h each = refl
-begins_yes (x ∷ f) [] h each = absurd (omega arith)
-begins_yes (x ∷ f) (y ∷ s) h each =
-    and_from (eqb x y) (begins f s) (eq-eqb x y (each 0 (omega arith))) (begins_yes f s (omega arith) (λ k l. each (suc k) (omega arith)))
-
--- It does not if an axis differs.
-pub begins_no : (f s : List ℕ) (k : ℕ) → k < length f → k < length s → (get_or f k 0 ≡ get_or s k 0 → ⊥) → begins f s ≡ false
-begins_no [] s k l m apart = absurd (omega arith)
-begins_no (x ∷ f) [] k l m apart = refl
-begins_no (x ∷ f) (y ∷ s) zero l m apart = and_left (eqb x y) (begins f s) (ne_eqb x y apart)
-begins_no (x ∷ f) (y ∷ s) (suc k) l m apart = and_right (eqb x y) (begins f s) (begins_no f s k (omega arith) (omega arith) apart)
-
--- It does not if it is longer.
-pub begins_long : (f s : List ℕ) → length s < length f → begins f s ≡ false
-begins_long [] s h = absurd (omega arith)
-begins_long (x ∷ f) [] h = refl
-begins_long (x ∷ f) (y ∷ s) h = and_right (eqb x y) (begins f s) (begins_long f s (omega arith))
-
--- Shapes of equal length are the same if one begins the other.
-pub same_level : (a b : List ℕ) → length a ≡ length b → same a b ≡ begins a b
-same_level [] [] h = refl
-same_level [] (y ∷ b) h = absurd (omega arith)
-same_level (x ∷ a) [] h = refl
-same_level (x ∷ a) (y ∷ b) h = ap (λ (t : Bool). eqb x y && t) (same_level a b (omega arith))
+-- The tests of the prefix order as the library's tests on slices.
+use Rattle.std.proofs.Common.{◌≡◌, ◌≢◌, ℕ, suc, ◌-◌, Bool, false, ◌&&◌, eqb, leb, List, [], ◌∷◌, length, take, drop, sym, refl, ap, ◌∙◌, inl, inr, arith, length-drop}
+use Rattle.std.specs.Cmp.Lexicographic.{pointwise}
+use Rattle.std.proofs.lemmas.Bool.{and_left, and_right, le-leb, lt-leb, cases_lt}
+use Rattle.remora.specs.Shapes.{same, begins, ends}
+use Rattle.shapes.specs.Equality.{same_is, same_equiv}
 
 -- Shapes of other lengths are not the same.
-pub same_uneven : (a b : List ℕ) → (length a ≡ length b → ⊥) → same a b ≡ false
+same_uneven : (a b : List ℕ) → (length a ≡ length b → ⊥) → same a b ≡ false
 same_uneven [] [] h = absurd (h refl)
 same_uneven [] (y ∷ b) h = refl
 same_uneven (x ∷ a) [] h = refl
 same_uneven (x ∷ a) (y ∷ b) h = and_right (eqb x y) (same a b) (same_uneven a b (λ e. h (ap suc e)))
+
+-- A shape begins another as a slice starts with one.
+pub begins_is : (f s : List ℕ) → pointwise eqb f (take (length f) s) ≡ begins f s
+begins_is [] s = refl
+begins_is (x ∷ f) [] = refl
+begins_is (x ∷ f) (y ∷ s) = ap (λ (t : Bool). eqb x y && t) (begins_is f s)
+
+-- A shape ends in a cell as a slice has one for its suffix.
+pub suffix_is : (cell s : List ℕ) → pointwise eqb (drop (length s - length cell) s) cell ≡ ends cell s
+suffix_is cell s = elim (cases_lt (length s) (length cell)) [
+  | inl l ↦
+      let apart : length (drop (length s - length cell) s) ≢ length cell = omega (arith, length-drop (length s - length cell) s) in
+      same_is _ cell ∙ same_uneven _ cell apart ∙ sym (and_left (leb (length cell) (length s)) _ (lt-leb (length cell) (length s) l))
+  | inr l ↦ same_is _ cell ∙ sym (ap (λ (t : Bool). t && same (drop (length s - length cell) s) cell) (le-leb (length cell) (length s) l))
+]
+
+-- A shape ends in a cell as a slice ends with one.
+pub ends_is : (cell s : List ℕ) → pointwise eqb cell (drop (length s - length cell) s) ≡ ends cell s
+ends_is cell s =
+    let part : List ℕ = drop (length s - length cell) s in
+    same_is cell part ∙ same_equiv.symm cell part ∙ sym (same_is part cell) ∙ suffix_is cell s

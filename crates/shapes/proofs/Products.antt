@@ -1,9 +1,9 @@
--- The size and the extent of a shape as products that grow by one axis at a time.
-use Rattle.std.proofs.Common.{◌≡◌, ℕ, ◌+◌, ◌*◌, ◌^◌, ◌<◌, ◌≤◌, max, true, leb, List, [], ◌∷◌, ◌++◌, length, get_or, take, drop, sym, refl, ap, ◌∙◌, mul_assoc, mul-le-mul, mul-le-mul_left, one-mul, mul-one, arith, pow-add}
-use native.Mathlib.Nat.{one-le-mul}
-use Rattle.std.proofs.lemmas.List.{take_more, take-append-drop}
+-- The volume of a shape as a product that grows by one axis at a time; the size and the extent as volumes.
+use Rattle.std.proofs.Common.{◌≡◌, ℕ, ◌+◌, ◌*◌, ◌^◌, ◌<◌, ◌≤◌, max, true, leb, List, [], ◌∷◌, ◌++◌, length, get_or, take, sym, refl, ap, ◌∙◌, mul_assoc, mul-le-mul, one-mul, mul-one, arith, pow-add}
+use Rattle.std.proofs.lemmas.List.{take_more}
 use Rattle.std.proofs.lemmas.Bool.{and_parts, leb-true}
 use Rattle.remora.specs.Shapes.{size, extent, allowed}
+use Rattle.shapes.specs.Axes.{volume}
 
 -- A product of numbers that are each found from an axis.
 module _ (product : List ℕ → ℕ) (factor : ℕ → ℕ) (none : product [] ≡ 1) (one : (x : ℕ) (xs : List ℕ) → product (x ∷ xs) ≡ factor x * product xs) where
@@ -25,26 +25,19 @@ module _ (product : List ℕ → ℕ) (factor : ℕ → ℕ) (none : product [] 
       ∙ ap (λ (n : ℕ). product (take i xs) * n) (eq ∙ sym single)
       ∙ sym (ap product (take_more xs i 0 h) ∙ product_append (take i xs) (x ∷ []))
 
--- The size after one axis more.
-pub size_next : (xs : List ℕ) (i p q : ℕ) → i < length xs → p ≡ size (take i xs) → q ≡ get_or xs i 0 → p * q ≡ size (take (i + 1) xs)
-size_next = product_next size (λ n. n) refl (λ x xs. refl)
+-- The volume after one axis more.
+pub volume_next : (n : ℕ) (xs : List ℕ) (i p q : ℕ) → i < length xs → p ≡ volume n (take i xs) → q ≡ max n (get_or xs i 0) → p * q ≡ volume n (take (i + 1) xs)
+volume_next n = product_next (volume n) (max n) refl (λ x xs. refl)
 
--- The extent after one axis more.
-pub extent_next : (xs : List ℕ) (i p q : ℕ) → i < length xs → p ≡ extent (take i xs) → q ≡ max 1 (get_or xs i 0) → p * q ≡ extent (take (i + 1) xs)
-extent_next = product_next extent (max 1) refl (λ x xs. refl)
+-- With every axis as it is, the volume is the size.
+pub volume_size : (xs : List ℕ) → volume 0 xs ≡ size xs
+volume_size [] = refl
+volume_size (x ∷ xs) = let own : max 0 x ≡ x = omega arith in ap (λ (n : ℕ). n * volume 0 xs) own ∙ ap (λ (n : ℕ). x * n) (volume_size xs)
 
--- An extent is at least 1.
-extent_some : (xs : List ℕ) → 1 ≤ extent xs
-extent_some [] = omega arith
-extent_some (x ∷ xs) = let one : 1 ≤ max 1 x = omega arith in one-le-mul one (extent_some xs)
-
--- The extent of the first axes is at most that of all.
-pub extent_front : (xs : List ℕ) (i : ℕ) → extent (take i xs) ≤ extent xs
-extent_front xs i =
-    let whole : extent xs ≡ extent (take i xs) * extent (drop i xs) =
-    ap extent (sym (take-append-drop i xs)) ∙ product_append extent (max 1) refl (λ x xs. refl) (take i xs) (drop i xs) in
-    let more : extent (take i xs) * 1 ≤ extent (take i xs) * extent (drop i xs) = mul-le-mul_left (extent (take i xs)) (extent_some (drop i xs)) in
-    omega (arith, whole, more, mul-one (extent (take i xs)))
+-- With an axis of 0 counted as 1, the volume is the extent.
+pub volume_extent : (xs : List ℕ) → volume 1 xs ≡ extent xs
+volume_extent [] = refl
+volume_extent (x ∷ xs) = ap (λ (n : ℕ). max 1 x * n) (volume_extent xs)
 
 -- A size is at most the extent.
 size_extent : (xs : List ℕ) → size xs ≤ extent xs

@@ -1,11 +1,9 @@
--- The axes of a shape: those it is made of, those read off it, those of its parts.
-use Rattle.std.proofs.Common.{◌≡◌, ℕ, zero, suc, ◌+◌, ◌-◌, ◌<◌, ◌≤◌, min, List, [], ◌∷◌, ◌++◌, length, get_or, take, drop, replicate, sym, refl, ap, ◌∙◌, inl, inr, zero-add, arith, length-append, length-take}
-use Rattle.std.specs.List.{between}
-use Rattle.std.proofs.lemmas.List.{get_or-take, take_at, take_all, take-take, drop_all, drop-drop, drop_at, drop-replicate, append_assoc}
-use Rattle.std.proofs.lemmas.Slice.{between_is, put_mid-paste}
+-- The axes of a shape: those it is made of, and those of a frame and a cell put together.
+use Rattle.std.proofs.Common.{◌≡◌, ℕ, ◌+◌, ◌-◌, List, ◌++◌, length, drop, replicate, sym, refl, ap, ◌∙◌, zero-add, arith, length-append}
+use Rattle.std.proofs.lemmas.List.{take_at, drop-drop, drop_at, drop-replicate, append_assoc}
+use Rattle.std.proofs.lemmas.Slice.{put_mid-paste}
 use Rattle.std.proofs.lemmas.List.Edits.{paste_all}
 use borrow.Rule.Slice.PartMut.{put_mid}
-use Rattle.std.proofs.lemmas.Bool.{cases_lt}
 use Rattle.shapes.specs.declared.Shape.{Shape}
 use Rattle.shapes.specs.Axes.{dims, shape_of}
 
@@ -20,41 +18,6 @@ made_of xs ys n e p =
     drop-replicate (0 + n) 4 0 ∙ ap (λ (k : ℕ). replicate (4 - k) 0) (zero-add n ∙ e) in
     let q : ys ≡ xs ++ replicate (4 - length xs) 0 = p ∙ ap (λ (z : List ℕ). xs ++ z) zeros in
     λ j. record { axes = q j; rank = e j }
-
--- Below the rank an axis stands in its place of the array.
-pub dims_read : (s : Shape) (k : ℕ) → k < length (dims s) → get_or (dims s) k 0 ≡ get_or s.axes k 0
-dims_read s k h =
-    let below : k < s.rank = omega (arith, length-take s.rank s.axes) in
-    get_or-take s.rank s.axes k 0 below
-
--- The first elements, taken by their own number.
-take_own : (n : ℕ) (xs : List ℕ) → take (length (take n xs)) xs ≡ take n xs
-take_own zero xs = refl
-take_own (suc n) [] = refl
-take_own (suc n) (x ∷ xs) = ap (λ (l : List ℕ). x ∷ l) (take_own n xs)
-
--- Of as many places as there are axes, the first are the first axes.
-pub front_is : (s : Shape) (n : ℕ) → n ≤ length (dims s) → take n s.axes ≡ take n (dims s)
-front_is s n h =
-    sym (take-take n (length (dims s)) s.axes h) ∙ ap (take n) (take_own s.rank s.axes)
-
--- A part of the places below the rank is that part of the axes.
-pub part_is : (s : Shape) (m n : ℕ) → n ≤ length (dims s) → between m n s.axes ≡ drop m (take n (dims s))
-part_is s m n h = between_is s.axes m n ∙ ap (drop m) (front_is s n h)
-
--- Taking more than there is takes all.
-pub clamp_take : (n m : ℕ) (xs : List ℕ) → m ≡ min n (length xs) → take m xs ≡ take n xs
-clamp_take n m xs e = elim (cases_lt n (length xs)) [
-  | inl l ↦ let first : m ≡ n = omega arith in ap (λ (k : ℕ). take k xs) first
-  | inr l ↦ take_all m xs (omega arith) ∙ sym (take_all n xs (omega arith))
-]
-
--- Dropping more than there is leaves nothing.
-pub clamp_drop : (n m : ℕ) (xs : List ℕ) → m ≡ min n (length xs) → drop m xs ≡ drop n xs
-clamp_drop n m xs e = elim (cases_lt n (length xs)) [
-  | inl l ↦ let first : m ≡ n = omega arith in ap (λ (k : ℕ). drop k xs) first
-  | inr l ↦ drop_all m xs (omega arith) ∙ sym (drop_all n xs (omega arith))
-]
 
 -- A frame's axes with a cell's written behind them are those of both.
 pub both_are : (s : Shape) (f g zs : List ℕ) (n m : ℕ) → s ≡ shape_of f → n ≡ length f → m ≡ length g → zs ≡ g

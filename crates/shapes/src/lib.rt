@@ -1,13 +1,16 @@
 // Shapes of arrays as small values: axes, frames before a cell, the joining of frames; types of arrays.
 #![tactic(auto)]
 
-ghost use Rattle.std.specs.Prelude.{◌≡◌, ◌+◌, ◌<◌, ◌≤◌, min, true, ◌&&◌, [], ◌++◌, length, take, drop, ◌==◌, nat_le, nat_lt, slice_index};
-ghost use Rattle.remora.specs.Shapes.{size, allowed, same, begins, ends, comparable, longer};
-ghost use Rattle.shapes.specs.Axes.{dims, shape_of, array_type, Made, framed, joined, followed};
+ghost use Rattle.std.specs.Prelude.{◌≡◌, ◌+◌, ◌≤◌, min, true, ◌&&◌, [], ◌++◌, length, take, drop, ◌==◌, nat_lt, slice_index};
+ghost use Rattle.std.specs.Cmp.{on_per, on_equiv, partial_equiv_from_equiv};
+ghost use Rattle.remora.specs.Shapes.{size, allowed, same, begins, ends, longer};
+ghost use Rattle.shapes.specs.Axes.{dims, shape_of, array_type, volume, Made, Framed, Joined, Followed};
+ghost use Rattle.shapes.specs.Equality.{same_equiv};
 
 /// Up to four axes.
 #[derive(Clone, Copy)]
 pub struct Shape {
+    // The axes are kept in place, with their number beside them: shapes stand in tables of fixed size, without a heap.
     axes: [u32; 4],
     rank: u8,
 }
@@ -58,26 +61,27 @@ impl Shape {
         }
     }
 
+    /// The axes.
+    pub fn axes(&self) -> &[u32]
+        ensures axes { result.now ≡ dims self.now }
+        ensures few { length result.now ≤ 4 }
+    {
+        let rank = (self.rank as usize).min(4);
+        &self.axes[..rank]
+    }
+
     /// How many axes there are.
     pub fn rank(self) -> usize
         ensures { (result ≡ length (dims self)) × (result ≤ 4) }
     {
-        if self.rank < 4 { self.rank as usize } else { 4 }
+        self.axes().len()
     }
 
     /// The axis of this number, 0 if there is none.
     pub fn axis(self, i: usize) -> u32
         ensures { result ≡ slice_index (dims self) i }
     {
-        if i < self.rank() { self.nth(i) } else { 0 }
-    }
-
-    /// The axis of this number, which there is.
-    fn nth(self, i: usize) -> u32
-        requires { (i < length (dims self)) × (i < 4) }
-        ensures { result ≡ slice_index (dims self) i }
-    {
-        self.axes[i]
+        self.axes().get(i).copied().unwrap_or(0)
     }
 
     /// The first `n` axes, all of them if there are fewer.
@@ -85,7 +89,7 @@ impl Shape {
         ensures axes { dims result ≡ take n (dims self) }
         ensures whole { result ≡ shape_of (take n (dims self)) }
     {
-        self.part(0, self.clamped(n))
+        Shape::packed(&self.axes()[..n.min(self.rank())])
     }
 
     /// The axes from number `n` on, none if there are fewer.
@@ -93,82 +97,43 @@ impl Shape {
         ensures axes { dims result ≡ drop n (dims self) }
         ensures whole { result ≡ shape_of (drop n (dims self)) }
     {
-        self.part(self.clamped(n), self.rank())
-    }
-
-    /// The number `n` or, if that is less, the rank: the same axes stand before it, and the same after it.
-    fn clamped(self, n: usize) -> usize
-        ensures exact { (result ≡ min n (length (dims self))) × (result ≤ 4) }
-        ensures before { take result (dims self) ≡ take n (dims self) }
-        ensures after { drop result (dims self) ≡ drop n (dims self) }
-    {
-        n.min(self.rank())
-    }
-
-    /// The axes from number `start` up to number `end`.
-    fn part(self, start: usize, end: usize) -> Shape
-        requires { (start ≤ end) × ((end ≤ length (dims self)) × (end ≤ 4)) }
-        ensures axes { dims result ≡ drop start (take end (dims self)) }
-        ensures whole { result ≡ shape_of (drop start (take end (dims self))) }
-        ensures rest { end ≡ length (dims self) → (dims result ≡ drop start (dims self)) × (result ≡ shape_of (drop start (dims self))) }
-    {
-        Shape::packed(&self.axes[start..end])
+        Shape::packed(&self.axes()[n.min(self.rank())..])
     }
 
     /// Whether the first axes of `other` are those of `self`.
+    #[tactic(auto, using(crate::proofs::Prefixes::begins_is))]
     pub fn begins(self, other: Shape) -> bool
         ensures exact { result ≡ begins (dims self) (dims other) }
         ensures level { length (dims self) ≡ length (dims other) → result ≡ same (dims self) (dims other) }
     {
-        let n = self.rank();
-        if n > other.rank() {
-            return false;
-        }
-        for i in 0..n {
-            if self.nth(i) != other.nth(i) {
-                return false;
-            }
-        }
-        true
-    }
-
-    /// Whether the two have the same axes.
-    pub fn same(self, other: Shape) -> bool
-        ensures { result ≡ same (dims self) (dims other) }
-    {
-        self.rank() == other.rank() && self.begins(other)
+        other.axes().starts_with(self.axes())
     }
 
     /// Whether the last axes are those of `cell`.
+    #[tactic(auto, using(crate::proofs::Prefixes::ends_is))]
     pub fn ends_in(self, cell: Shape) -> bool
         ensures { result ≡ ends (dims cell) (dims self) }
     {
-        let all = self.rank();
-        let inner = cell.rank();
-        inner <= all && self.back(all - inner).same(cell)
+        self.axes().ends_with(cell.axes())
     }
 
-    /// Whether the shape ends in `cell`, beside the frame before it, which is empty if it does not.
-    pub fn frame_before(self, cell: Shape) -> (bool, Shape)
-        ensures flag { result.0 ≡ ends (dims cell) (dims self) }
-        ensures frame { result.1 ≡ shape_of (framed (dims cell) (dims self)) }
+    /// The frame before `cell`, if the shape ends in it.
+    #[tactic(auto, using(crate::proofs::Prefixes::suffix_is))]
+    pub fn frame_before(self, cell: Shape) -> Option<Shape>
+        ensures { Framed (dims cell) (dims self) result }
     {
-        if self.ends_in(cell) {
-            (true, self.front(self.rank() - cell.rank()))
-        } else {
-            (false, Shape::SCALAR)
-        }
+        let frame = self.axes().strip_suffix(cell.axes())?;
+        Some(Shape::packed(frame))
     }
 
-    /// Whether one shape begins the other, beside the longer of the two, which is empty if not.
-    pub fn join(self, other: Shape) -> (bool, Shape)
-        ensures flag { result.0 ≡ comparable (dims self) (dims other) }
-        ensures frame { dims result.1 ≡ joined (dims self) (dims other) }
+    /// The longer of two shapes of which one begins the other.
+    pub fn join(self, other: Shape) -> Option<Shape>
+        ensures { Joined (dims self) (dims other) result }
     {
         if self.begins(other) || other.begins(self) {
-            (true, self.longer(other))
+            Some(self.longer(other))
         } else {
-            (false, Shape::SCALAR)
+            None
         }
     }
 
@@ -183,15 +148,14 @@ impl Shape {
         }
     }
 
-    /// Whether the axes of both are at most four, beside those of `self` and then of `cell`, none if they are more.
-    pub fn concatenated(self, cell: Shape) -> (bool, Shape)
-        ensures flag { result.0 ≡ nat_le (length (dims self) + length (dims cell)) 4 }
-        ensures whole { result.1 ≡ shape_of (followed (dims self) (dims cell)) }
+    /// The axes of `self` and then those of `cell`, if they are at most four.
+    pub fn concatenated(self, cell: Shape) -> Option<Shape>
+        ensures { Followed (dims self) (dims cell) result }
     {
         if self.rank() + cell.rank() <= 4 {
-            (true, self.followed_by(cell))
+            Some(self.followed_by(cell))
         } else {
-            (false, Shape::SCALAR)
+            None
         }
     }
 
@@ -203,54 +167,66 @@ impl Shape {
         let outer = self.rank();
         let rank = outer + cell.rank();
         let mut axes = self.front(outer).axes;
-        axes[outer..rank].copy_from_slice(&cell.axes[0..rank - outer]);
+        axes[outer..rank].copy_from_slice(cell.axes());
         Shape {
             axes,
             rank: rank as u8,
         }
     }
 
-    /// The product of the axes, 1 for the empty shape.
-    pub fn size(self) -> u128
-        ensures { result ≡ size (dims self) }
+    /// The product of the axes, each taken as `least` if it is less, 1 for the empty shape.
+    fn volume(self, least: u32) -> u128
+        ensures { result ≡ volume least (dims self) }
     {
-        let mut product: u128 = 1;
-        for i in 0..self.rank() {
-            product *= self.nth(i) as u128;
+        let mut product = 1;
+        for axis in self.axes() {
+            product *= u128::from((*axis).max(least));
         }
         product
     }
 
+    /// The product of the axes, 1 for the empty shape.
+    #[tactic(auto, using(crate::proofs::Products::volume_size))]
+    pub fn size(self) -> u128
+        ensures { result ≡ size (dims self) }
+    {
+        self.volume(0)
+    }
+
     /// The size if it fits 32 bits, as that of an allowed shape does, else the largest number of 32 bits.
+    #[tactic(auto, using(crate::proofs::Products::size_allowed))]
     pub fn small_size(self) -> u32
         ensures exact { result ≡ min (size (dims self)) 4294967295 }
         ensures whole { allowed (dims self) ≡ true → result ≡ size (dims self) }
     {
-        let size = self.size();
-        if size < u32::MAX as u128 {
-            size as u32
-        } else {
-            u32::MAX
-        }
+        u32::try_from(self.size()).unwrap_or(u32::MAX)
     }
 
     /// Whether the extent, the product with every axis of 0 taken as 1, is no more than 65,536.
     pub fn allowed(self) -> bool
         ensures { result ≡ allowed (dims self) }
     {
-        let mut product: u64 = 1;
-        for i in 0..self.rank() {
-            product *= self.nth(i).max(1) as u64;
-            if product > 65536 {
-                return false;
-            }
-        }
-        true
+        self.volume(1) <= 65536
     }
 }
 
+/// Shapes are equal if their axes are; the places behind the axes are no part of a shape, so this is no derive.
+impl PartialEq for Shape {
+    ghost eq = { λ a b. same (dims a) (dims b) };
+
+    ghost laws = { on_per dims (partial_equiv_from_equiv same_equiv) };
+
+    fn eq(&self, other: &Shape) -> bool {
+        self.axes() == other.axes()
+    }
+}
+
+impl Eq for Shape {
+    ghost laws = { on_equiv dims same_equiv };
+}
+
 /// The type of an array: a base type and a shape.
-#[derive(Clone, Copy)]
+#[derive(Clone, Copy, PartialEq, Eq)]
 pub struct ArrayType {
     pub base: u32,
     pub shape: Shape,
@@ -267,7 +243,7 @@ impl ArrayType {
     pub fn same(self, other: ArrayType) -> bool
         ensures { result ≡ ((array_type self).base == (array_type other).base && same (array_type self).shape (array_type other).shape) }
     {
-        self.base == other.base && self.shape.same(other.shape)
+        self == other
     }
 }
 
@@ -291,11 +267,9 @@ mod tests {
         let three = Shape::new(&[3]).ok_or("rank")?;
         let two_three = Shape::new(&[2, 3]).ok_or("rank")?;
         let three_two = Shape::new(&[3, 2]).ok_or("rank")?;
-        assert!(rt; !three.join(two_three).0);
-        let (joined, frame) = three.join(three_two);
-        assert!(rt; joined && frame.same(three_two));
-        let (ends, frame) = two_three.frame_before(three);
-        assert!(rt; ends && frame.same(Shape::new(&[2]).ok_or("rank")?));
+        assert!(rt; three.join(two_three).is_none());
+        assert!(rt; three.join(three_two) == Some(three_two));
+        assert!(rt; two_three.frame_before(three) == Shape::new(&[2]));
         Ok(())
     }
 }

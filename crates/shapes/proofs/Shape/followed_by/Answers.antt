@@ -1,8 +1,8 @@
 -- The cell's axes are written behind the frame's.
-use Rattle.std.proofs.Common.{◌≡◌, ℕ, ◌+◌, ◌-◌, List, ap, ◌∙◌, arith}
+use Rattle.std.proofs.Common.{◌≡◌, ℕ, List, ap, ◌∙◌, arith}
 use Rattle.std.proofs.lemmas.List.{take_all}
 use Rattle.shapes.specs.Axes.{dims, shape_of}
-use Rattle.shapes.proofs.Views.{part_is, both_are}
+use Rattle.shapes.proofs.Views.{both_are}
 use Rattle.shapes.proofs.Shape.followed_by.Goals as goal
 
 pub returns : goal.returns
@@ -12,6 +12,4 @@ returns c =
     let n : ℕ = c.rank-outer.result in
     let m : ℕ = c.rank.result in
     let first : c.front.result ≡ shape_of f = c.front.ensures.whole ∙ ap shape_of (take_all n f (omega arith)) in
-    let copied : c.copy_from_slice.new.self ≡ g =
-    c.copy_from_slice.ensures.after ∙ part_is c.args.cell 0 (n + m - n) (omega arith) ∙ take_all (n + m - n) g (omega arith) in
-    both_are c.front.result f g c.copy_from_slice.new.self n m first c.rank-outer.ensures.0 c.rank.ensures.0 copied
+    both_are c.front.result f g c.copy_from_slice.new.self n m first c.rank-outer.ensures.0 c.rank.ensures.0 (c.copy_from_slice.ensures.after ∙ c.axes.ensures.axes)
