@@ -1,25 +1,38 @@
 // Algebras of samples: the trait that the library is generic over, and what its implementations owe.
 #![tactic(auto)]
 
-ghost use Rattle.std.specs.Prelude.{◌≡◌, ℕ, true};
+ghost use Rattle.std.specs.Prelude.{◌≡◌, ℕ, true, length};
 ghost use Rattle.remora.specs.Algebras.{Meaning, Sample, applied};
+ghost use Rattle.algebra.specs.Operands.{listed};
 ghost use Rattle.algebra.specs.Promises.{Denotes, Described, ReadAs, samples, answered};
 
-/// What an operator takes and gives: the base types of its operands, of which the first `count` count, that of its result, and its unit.
-#[derive(Clone, Copy)]
-pub struct Signature {
-    pub count: u8,
-    pub operands: [u8; 3],
-    pub result: u8,
-    pub unit: Option<u64>,
-}
-
-/// The operands of an operator: one to three.
-#[derive(Clone, Copy)]
+/// The operands of an operator, or what is said of each of them: one to three.
+#[derive(Clone, Copy, Debug, PartialEq, Eq)]
 pub enum Operands<T> {
     One(T),
     Two(T, T),
     Three(T, T, T),
+}
+
+impl<T> Operands<T> {
+    /// How many operands there are.
+    pub fn count(&self) -> usize
+        ensures { result ≡ length (listed self.now) }
+    {
+        match self {
+            Operands::One(_) => 1,
+            Operands::Two(_, _) => 2,
+            Operands::Three(_, _, _) => 3,
+        }
+    }
+}
+
+/// What an operator takes and gives: the base types of its operands and of its result, and its unit.
+#[derive(Clone, Copy, Debug, PartialEq, Eq)]
+pub struct Signature {
+    pub operands: Operands<u8>,
+    pub result: u8,
+    pub unit: Option<u64>,
 }
 
 /// A number that a type states, so that a constant of the type is known wherever it is read.
@@ -48,6 +61,9 @@ pub trait Algebra {
     /// The value that stands for a sample.
     type Atom: Copy;
 
+    /// Why an operator gives nothing.
+    type Fault: Copy;
+
     /// The type that states the number of base types, 1 to 4.
     type Bases: Stated + Copy;
 
@@ -61,6 +77,8 @@ pub trait Algebra {
     ghost meaning: { Meaning };
 
     ghost sample: { Self.Atom → Sample };
+
+    ghost cause: { Self.Fault → ℕ };
 
     /// The signature of an operator, if there is one of this number.
     fn signature(op: u8) -> Option<Signature>
@@ -86,9 +104,13 @@ pub trait Algebra {
         (Self::base_of(atom), Self::code_of(atom))
     }
 
-    /// What an operator gives for these operands or a cause, 0 if the operator is unknown or takes other operands.
-    fn apply(op: u8, operands: Operands<Self::Atom>) -> Result<Self::Atom, u8>
-        ensures { answered sample result ≡ applied meaning op (samples sample operands) };
+    /// The number of a fault's cause: 0 if the operator is unknown or takes other operands.
+    fn cause_of(fault: Self::Fault) -> u8
+        ensures { result ≡ cause fault };
+
+    /// What an operator gives for these operands, or a fault.
+    fn apply(op: u8, operands: Operands<Self::Atom>) -> Result<Self::Atom, Self::Fault>
+        ensures { answered sample cause result ≡ applied meaning op (samples sample operands) };
 
     ghost lawful: { Denotes meaning sample };
 
