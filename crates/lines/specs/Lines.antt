@@ -1,5 +1,5 @@
 -- Lines of the code as lines of the theory.
-use Rattle.std.specs.Prelude.{◌≡◌, ℕ, ◌-◌, true, false, List, ◌++◌, map, length, take, replicate, Some, None, Option}
+use Rattle.std.specs.Prelude.{◌≡◌, ℕ, ◌-◌, true, false, List, ◌++◌, map, length, take, replicate, Some, None, Ok, Err, Option, Result}
 use Rattle.remora.specs.Algebras.{Meaning}
 use Rattle.remora.specs.Calls.{in_order}
 use Rattle.remora.specs.Formulas as theory
@@ -7,6 +7,7 @@ use Rattle.shapes.specs.Axes.{dims}
 use Rattle.lines.specs.declared.given.Line.{Line}
 use Rattle.lines.specs.declared.given.ParameterType.{ParameterType}
 use Rattle.lines.specs.declared.given.Kind.{Kind}
+use Rattle.lines.specs.declared.given.UnknownKind.{UnknownKind}
 use Rattle.lines.specs.declared.given.Kind.TheVariants.{Literal, Parameter, Frame, Operator, Call, Fold, Append, Reverse}
 use Rattle.lines.specs.declared.fields.Fields.{Fields}
 
@@ -45,9 +46,9 @@ kind_for Append = theory.an_append
 kind_for Reverse = theory.a_reverse
 
 -- The kind of a number, and none exactly where the theory has none.
-abbrev pub KindOf : ℕ → Option Kind → Type 0
-KindOf n None = theory.kind_of n ≡ theory.no_kind
-KindOf n (Some k) = n ≡ number_for k
+abbrev pub KindOf : ℕ → Result Kind UnknownKind → Type 0
+KindOf n (Ok k) = n ≡ number_for k
+KindOf n (Err e) = theory.kind_of n ≡ theory.no_kind
 
 -- Up to four numbers, with 0 in the places behind them.
 abbrev pub padded : List ℕ → List ℕ

@@ -7,6 +7,7 @@ use algebra::{Algebra, Stated};
 use shapes::Shape;
 
 /// The fields of a line that is in order, of whose operands the first `count` count.
+// The operands are kept in place, with their number beside them: fields are copied into tables of fixed size, without a heap.
 #[derive(Clone, Copy)]
 pub struct Fields {
     pub kind: Kind,
@@ -24,7 +25,7 @@ fn four(operands: &[u32]) -> [u32; 4]
 {
     let count = operands.len();
     let mut all = [0; 4];
-    all[0..count].copy_from_slice(operands);
+    all[..count].copy_from_slice(operands);
     all
 }
 
@@ -45,10 +46,10 @@ impl Fields {
         ensures { InOrder A.meaning (line_of line.now) result }
     {
         let bases = A::BASES.get();
-        let kind = Kind::of(line.kind)?;
-        let shape = Shape::new(line.shape)?;
+        let kind = Kind::try_from(line.kind).ok()?;
+        let shape = Shape::checked(line.shape)?;
         let count = line.operands.len();
-        if line.base < bases as u32 && shape.allowed() && count <= 4 && line.unnamed_empty(kind) {
+        if line.base < u32::from(bases) && count <= 4 && line.unnamed_empty(kind) {
             Some(Fields {
                 kind,
                 base: line.base,
@@ -66,7 +67,7 @@ impl Fields {
     pub fn operands(&self) -> &[u32]
         ensures { result.now ≡ take self.now.count self.now.operands }
     {
-        let count = (self.count as usize).min(4);
-        &self.operands[0..count]
+        let count = usize::from(self.count).min(4);
+        &self.operands[..count]
     }
 }

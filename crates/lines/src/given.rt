@@ -1,10 +1,11 @@
 // Lines as they are handed over, and their kinds.
 ghost use Rattle.std.specs.Prelude.{◌≡◌};
 ghost use Rattle.remora.specs.Calls.{unnamed_empty};
-ghost use Rattle.lines.specs.Lines.{line_of, KindOf, kind_for, number_for};
+ghost use Rattle.lines.specs.Lines.{line_of, KindOf, kind_for};
 
 /// A line as it is handed over: any numbers, so that everything can be shown and refused.
-#[derive(Clone, Copy)]
+// The numbers stay numbers, since a draft that is in order nowhere must still be told its first no.
+#[derive(Clone, Copy, Debug)]
 pub struct Line<'a> {
     pub kind: u32,
     pub base: u32,
@@ -15,14 +16,14 @@ pub struct Line<'a> {
 }
 
 /// The type of a parameter as it is handed over.
-#[derive(Clone, Copy)]
+#[derive(Clone, Copy, Debug)]
 pub struct ParameterType<'a> {
     pub base: u32,
     pub shape: &'a [u32],
 }
 
 /// The kinds of lines, numbered from 0 to 7.
-#[derive(Clone, Copy)]
+#[derive(Clone, Copy, Debug, PartialEq, Eq)]
 pub enum Kind {
     Literal,
     Parameter,
@@ -34,21 +35,27 @@ pub enum Kind {
     Reverse,
 }
 
-impl Kind {
-    /// The kind of this number, if there is one.
-    pub fn of(number: u32) -> Option<Kind>
-        ensures { KindOf number result }
-    {
+/// No kind has the number.
+#[derive(Clone, Copy, Debug, PartialEq, Eq)]
+pub struct UnknownKind;
+
+/// The kind of a number.
+impl TryFrom<u32> for Kind {
+    type Error = UnknownKind;
+
+    ghost try_from_gives = { KindOf };
+
+    fn try_from(number: u32) -> Result<Kind, UnknownKind> {
         match number {
-            0 => Some(Kind::Literal),
-            1 => Some(Kind::Parameter),
-            2 => Some(Kind::Frame),
-            3 => Some(Kind::Operator),
-            4 => Some(Kind::Call),
-            5 => Some(Kind::Fold),
-            6 => Some(Kind::Append),
-            7 => Some(Kind::Reverse),
-            _ => None,
+            0 => Ok(Kind::Literal),
+            1 => Ok(Kind::Parameter),
+            2 => Ok(Kind::Frame),
+            3 => Ok(Kind::Operator),
+            4 => Ok(Kind::Call),
+            5 => Ok(Kind::Fold),
+            6 => Ok(Kind::Append),
+            7 => Ok(Kind::Reverse),
+            _ => Err(UnknownKind),
         }
     }
 }

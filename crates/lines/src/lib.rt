@@ -6,5 +6,5 @@ mod given;
 mod refusals;
 
 pub use fields::Fields;
-pub use given::{Kind, Line, ParameterType};
+pub use given::{Kind, Line, ParameterType, UnknownKind};
 pub use refusals::Refusal;

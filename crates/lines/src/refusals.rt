@@ -5,7 +5,7 @@ ghost use Rattle.lines.specs.Refusals.{number_of, named_line, reason_of};
 use std::fmt;
 
 /// Why a call refuses. The reasons that concern one line of a draft carry its number.
-#[derive(Clone, Copy)]
+#[derive(Clone, Copy, Debug, PartialEq, Eq)]
 pub enum Refusal {
     TooManyDrafts,
     BadParameters,
@@ -34,6 +34,7 @@ pub enum Refusal {
 
 impl Refusal {
     /// The number of the question that was answered by no.
+    // Cases with a line have no discriminant that could be read, so the numbers stand here.
     pub fn number(self) -> u8
         ensures { result ≡ number_of self }
     {
@@ -82,6 +83,7 @@ impl Refusal {
 }
 
 /// A refusal is printed as its reason.
+// Written by hand, since clauses name the text.
 impl fmt::Display for Refusal {
     ghost output = { λ x. Some (reason_of x) };
 

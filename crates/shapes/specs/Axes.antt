@@ -1,6 +1,6 @@
 -- The list of axes behind a shape of the code, and the answers that are stated by it.
 use Rattle.std.specs.Prelude.{◌≡◌, ℕ, ◌+◌, ◌-◌, ◌*◌, ◌<◌, ◌≤◌, max, true, false, List, [], ◌∷◌, ◌++◌, length, take, replicate, Some, None, Option, nat_lt}
-use Rattle.remora.specs.Shapes.{ends, frame_of, comparable, longer}
+use Rattle.remora.specs.Shapes.{allowed, ends, frame_of, comparable, longer}
 use Rattle.remora.specs.Formulas as formulas
 use Rattle.shapes.specs.declared.Shape.{Shape}
 use Rattle.shapes.specs.declared.ArrayType.{ArrayType}
@@ -26,6 +26,11 @@ volume n (x ∷ xs) = max n x * volume n xs
 abbrev pub Made : List ℕ → Option Shape → Type 0
 Made xs None = 4 < length xs
 Made xs (Some s) = (length xs ≤ 4) × (s ≡ shape_of xs) × (dims s ≡ xs)
+
+-- A shape is checked of exactly the axes of an allowed shape, and it has these.
+abbrev pub Checked : List ℕ → Option Shape → Type 0
+Checked xs None = allowed xs ≡ false
+Checked xs (Some s) = (allowed xs ≡ true) × (s ≡ shape_of xs) × (dims s ≡ xs)
 
 -- The frame before a cell is told exactly of a shape that ends in the cell.
 abbrev pub Framed : List ℕ → List ℕ → Option Shape → Type 0

@@ -4,7 +4,7 @@
 ghost use Rattle.std.specs.Prelude.{◌≡◌, ◌+◌, ◌≤◌, min, true, ◌&&◌, [], ◌++◌, length, take, drop, ◌==◌, nat_lt, slice_index};
 ghost use Rattle.std.specs.Cmp.{on_per, on_equiv, partial_equiv_from_equiv};
 ghost use Rattle.remora.specs.Shapes.{size, allowed, same, begins, ends, longer};
-ghost use Rattle.shapes.specs.Axes.{dims, shape_of, array_type, volume, Made, Framed, Joined, Followed};
+ghost use Rattle.shapes.specs.Axes.{dims, shape_of, array_type, volume, Made, Checked, Framed, Joined, Followed};
 ghost use Rattle.shapes.specs.Equality.{same_equiv};
 
 /// Up to four axes.
@@ -46,6 +46,14 @@ impl Shape {
         }
     }
 
+    /// The shape of these axes, if they make an allowed shape.
+    pub fn checked(axes: &[u32]) -> Option<Shape>
+        ensures { Checked axes.now result }
+    {
+        let shape = Shape::new(axes)?;
+        if shape.allowed() { Some(shape) } else { None }
+    }
+
     /// The shape of these axes, of which there are at most four.
     fn packed(axes: &[u32]) -> Shape
         requires { length axes.now ≤ 4 }
@@ -54,7 +62,7 @@ impl Shape {
     {
         let rank = axes.len();
         let mut all = [0; 4];
-        all[0..rank].copy_from_slice(axes);
+        all[..rank].copy_from_slice(axes);
         Shape {
             axes: all,
             rank: rank as u8,

@@ -14,10 +14,10 @@ use Rattle.lines.specs.Refusals.{answer_of}
 abbrev pub types_of : List ArrayType → List theory.ArrayType
 types_of ts = map array_type ts
 
--- Frames agree, and this is their principal frame; or they do not.
-abbrev pub Joined : List (List ℕ) → Bool → Shape → Type 0
-Joined fs true s = (agree fs ≡ true) × (dims s ≡ principal fs)
-Joined fs false s = (agree fs ≡ false) × (dims s ≡ [])
+-- The principal frame of frames is told exactly where they agree.
+abbrev pub Joined : List (List ℕ) → Option Shape → Type 0
+Joined fs None = agree fs ≡ false
+Joined fs (Some s) = (agree fs ≡ true) × (dims s ≡ principal fs)
 
 -- The answer to a first no at a line; without a no there is none.
 abbrev pub answer_at : ℕ → Option ℕ → Option Answer
