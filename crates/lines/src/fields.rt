@@ -65,7 +65,8 @@ impl Fields {
 
     /// The operands.
     pub fn operands(&self) -> &[u32]
-        ensures { result.now ≡ take self.now.count self.now.operands }
+        ensures all { result.now ≡ take self.now.count self.now.operands }
+        ensures few { length result.now ≤ 4 }
     {
         let count = usize::from(self.count).min(4);
         &self.operands[..count]

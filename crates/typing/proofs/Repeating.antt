@@ -1,6 +1,6 @@
--- How operands are lifted: one operand at a time, and that the numbers of 32 bits are exact where shapes are allowed.
-use Rattle.std.proofs.Common.{◌≡◌, ℕ, zero, suc, ◌+◌, ◌-◌, ◌*◌, ◌<◌, ◌≤◌, max, Bool, true, leb, ◌≢◌, List, [], ◌∷◌, ◌++◌, length, get_or, take, drop, set, sym, refl, ap, ◌∙◌, add-zero, mul-le-mul_right, mul-le-mul_left, one-mul, mul-one, arith, length-append, below_more}
-use Rattle.std.proofs.lemmas.List.{get_or-set_same, get_or-set_other, take-append-drop}
+-- How operands are lifted: the numbers of 32 bits are exact where shapes are allowed.
+use Rattle.std.proofs.Common.{◌≡◌, ℕ, zero, suc, ◌+◌, ◌-◌, ◌*◌, ◌<◌, ◌≤◌, max, Bool, true, leb, List, [], ◌∷◌, ◌++◌, length, get_or, take, drop, sym, refl, ap, ◌∙◌, add-zero, mul-le-mul_right, mul-le-mul_left, one-mul, mul-one, arith, length-append}
+use Rattle.std.proofs.lemmas.List.{take-append-drop}
 use Rattle.std.proofs.lemmas.Bool.{and_parts, and_from, leb-true, le-leb}
 use Rattle.remora.specs.Formulas as theory
 use Rattle.remora.specs.Shapes.{size, extent, allowed, same, ends}
@@ -8,27 +8,9 @@ use Rattle.remora.specs.Evaluation.{repeats}
 use Rattle.remora.specs.Machine.{Operand, operands_of}
 use Rattle.remora.specs.Questions.{type_at, each_fits, cells_fit}
 use Rattle.remora.proofs.Prefixes.{same_equal}
-use Rattle.shapes.specs.declared.ArrayType.{ArrayType}
-use Rattle.shapes.specs.Axes.{array_type, dims}
 use Rattle.shapes.proofs.Products.{product_append, size_allowed}
 use Rattle.typing.specs.declared.found.Typed.{Typed}
-use Rattle.typing.specs.Typings.{types_of}
-use Rattle.typing.specs.Plans.{AllAllowed, small, LiftedAt, Lifted, planned_operands}
-use Rattle.typing.proofs.Asking.{absent, type_within}
-
--- one operand more, of type t, with a repeats and b atoms of a cell
-module _ (ts ws : List ArrayType) (os p rs ss : List ℕ) (i : ℕ) (t : ArrayType) (a b : ℕ) (r-four : length rs ≡ 4) (s-four : length ss ≡ 4) (h : i < 4) (k : i < length ws)
-    (is : array_type t ≡ type_at (types_of ts) (get_or os i 0)) (a-is : a ≡ small (repeats p (dims (get_or ws i absent).shape) (dims t.shape))) (b-is : b ≡ small (size (dims (get_or ws i absent).shape)))
-    (before : (k : ℕ) → k < i → LiftedAt (types_of ts) (types_of ws) os p rs ss k) where
-  cell_is : dims (get_or ws i absent).shape ≡ (get_or (types_of ws) i theory.no_type).shape
-  cell_is = ap (λ (u : theory.ArrayType). u.shape) (type_within ws i absent k)
-
-  pub lifted_more : (k : ℕ) → k < i + 1 → LiftedAt (types_of ts) (types_of ws) os p (set rs i a) (set ss i b) k
-  lifted_more = below_more (LiftedAt (types_of ts) (types_of ws) os p (set rs i a) (set ss i b)) i
-      (λ j l. let ne : j ≢ i = omega arith in (get_or-set_other rs i j a 0 ne ∙ (before j l).0, get_or-set_other ss i j b 0 ne ∙ (before j l).1)) (
-        get_or-set_same rs i a 0 (omega arith) ∙ a-is ∙ ap (λ (x : List ℕ). small (repeats p x (dims t.shape))) cell_is ∙ ap (λ (u : theory.ArrayType). small (repeats p (get_or (types_of ws) i theory.no_type).shape u.shape)) is,
-        get_or-set_same ss i b 0 (omega arith) ∙ b-is ∙ ap (λ (x : List ℕ). small (size x)) cell_is,
-      )
+use Rattle.typing.specs.Plans.{AllAllowed, small, lift_at, Lifted, planned_operands}
 
 -- ---- allowed shapes and their parts
 
@@ -88,24 +70,24 @@ fit_at test types (w ∷ ws) (o ∷ os) (suc i) h k e = fit_at test types ws os 
 
 -- operands from number i on, each lifted as the theory has it
 planned_from : (types ws : List theory.ArrayType) (p os : List ℕ) (t : Typed) (i : ℕ) → length os ≤ length ws
-    → ((j : ℕ) → j < length os → (get_or t.repeats (i + j) 0 ≡ repeats p (get_or ws j theory.no_type).shape (type_at types (get_or os j 0)).shape) × (get_or t.sizes (i + j) 0 ≡ size (get_or ws j theory.no_type).shape))
+    → ((j : ℕ) → j < length os → ((lift_at t.lifts (i + j)).repeats ≡ repeats p (get_or ws j theory.no_type).shape (type_at types (get_or os j 0)).shape) × ((lift_at t.lifts (i + j)).size ≡ size (get_or ws j theory.no_type).shape))
     → planned_operands t i os ≡ operands_of types p ws os
 planned_from types [] p [] t i h each = refl
 planned_from types (w ∷ ws) p [] t i h each = refl
 planned_from types [] p (o ∷ os) t i h each = absurd (omega arith)
 planned_from types (w ∷ ws) p (o ∷ os) t i h each =
     let here = each 0 (omega arith) in
-    let r-is : get_or t.repeats i 0 ≡ repeats p w.shape (type_at types o).shape = ap (λ (n : ℕ). get_or t.repeats n 0) (sym (add-zero i)) ∙ here.0 in
-    let s_is : get_or t.sizes i 0 ≡ size w.shape = ap (λ (n : ℕ). get_or t.sizes n 0) (sym (add-zero i)) ∙ here.1 in
+    let r-is : (lift_at t.lifts i).repeats ≡ repeats p w.shape (type_at types o).shape = ap (λ (n : ℕ). (lift_at t.lifts n).repeats) (sym (add-zero i)) ∙ here.0 in
+    let s_is : (lift_at t.lifts i).size ≡ size w.shape = ap (λ (n : ℕ). (lift_at t.lifts n).size) (sym (add-zero i)) ∙ here.1 in
     let next : (j : ℕ) → suc i + j ≡ i + suc j = λ j. omega arith in
-    let rest = planned_from types ws p os t (suc i) (omega arith) (λ j l. let u = each (suc j) (omega arith) in (ap (λ (n : ℕ). get_or t.repeats n 0) (next j) ∙ u.0, ap (λ (n : ℕ). get_or t.sizes n 0) (next j) ∙ u.1)) in
-    ap (λ (n : ℕ). record { line = o; repeats = n; size = get_or t.sizes i 0 } ∷ planned_operands t (suc i) os) r-is
+    let rest = planned_from types ws p os t (suc i) (omega arith) (λ j l. let u = each (suc j) (omega arith) in (ap (λ (n : ℕ). (lift_at t.lifts n).repeats) (next j) ∙ u.0, ap (λ (n : ℕ). (lift_at t.lifts n).size) (next j) ∙ u.1)) in
+    ap (λ (n : ℕ). record { line = o; repeats = n; size = (lift_at t.lifts i).size } ∷ planned_operands t (suc i) os) r-is
     ∙ ap (λ (n : ℕ). record { line = o; repeats = repeats p w.shape (type_at types o).shape; size = n } ∷ planned_operands t (suc i) os) s_is
     ∙ ap (λ (us : List Operand). record { line = o; repeats = repeats p w.shape (type_at types o).shape; size = size w.shape } ∷ us) rest
 
 -- the operands of an application of which all is allowed
 pub planned_lifted : (types ws : List theory.ArrayType) (p os : List ℕ) (t : Typed) → AllAllowed types → allowed p ≡ true → cells_fit types ws os ≡ true → length os ≤ length ws → length os ≤ 4
-    → Lifted types ws os p t.repeats t.sizes → planned_operands t 0 os ≡ operands_of types p ws os
+    → Lifted types ws os p t.lifts → planned_operands t 0 os ≡ operands_of types p ws os
 planned_lifted types ws p os t all h fit l m lifted =
     planned_from types ws p os t 0 l (λ j k.
     let shape : List ℕ = (type_at types (get_or os j 0)).shape in
@@ -113,6 +95,6 @@ planned_lifted types ws p os t all h fit l m lifted =
     let u = lifted j k (omega arith) (omega arith) in
     let fits : ends cell shape ≡ true = fit_at (λ t w. ends w.shape t.shape) types ws os j (omega arith) k fit in
     let plain : 0 + j ≡ j = omega arith in (
-      ap (λ (n : ℕ). get_or t.repeats n 0) plain ∙ u.0 ∙ small_is (drop (length shape - length cell) p) (allowed_back (length shape - length cell) p h),
-      ap (λ (n : ℕ). get_or t.sizes n 0) plain ∙ u.1 ∙ small_is cell (allowed_cell cell shape (type_allowed types (get_or os j 0) all) fits),
+      ap (λ (n : ℕ). (lift_at t.lifts n).repeats) plain ∙ u.0 ∙ small_is (drop (length shape - length cell) p) (allowed_back (length shape - length cell) p h),
+      ap (λ (n : ℕ). (lift_at t.lifts n).size) plain ∙ u.1 ∙ small_is cell (allowed_cell cell shape (type_allowed types (get_or os j 0) all) fits),
     ))

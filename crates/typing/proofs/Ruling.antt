@@ -1,23 +1,32 @@
 -- The rule for each kind of lines, from what was asked and found of it.
-use Rattle.std.proofs.Common.{◌≡◌, ℕ, zero, suc, ◌+◌, ◌<◌, ◌≤◌, Bool, true, false, not, ◌&&◌, ◌||◌, eqb, ltb, ◌⊎◌, List, [], ◌∷◌, ◌++◌, length, get_or, take, drop, is_some, None, Ok, Err, Option, Result, sym, refl, ap, ◌∙◌, subst, inl, inr, mul-one, arith}
+use Rattle.std.proofs.Common.{◌≡◌, ℕ, zero, suc, ◌+◌, ◌<◌, ◌≤◌, Bool, true, false, not, ◌&&◌, ◌||◌, eqb, ltb, ◌⊎◌, List, [], ◌∷◌, ◌++◌, length, get_or, take, drop, is_some, Some, None, Ok, Err, Option, Result, sym, refl, ap, ◌∙◌, subst, inl, inr, mul-one, arith}
 use Rattle.std.proofs.lemmas.List.{length-take, length-take-le}
-use Rattle.std.proofs.lemmas.Bool.{both_ways, cases_lt, and_from, and_left, and_right, lt-ltb, le-leb, eq-eqb, ne_eqb}
+use Rattle.std.proofs.lemmas.Bool.{both_ways, cases_lt, and_from, and_right, lt-ltb, le-leb, eq-eqb, ne_eqb}
 use Rattle.remora.specs.Algebras.{Meaning}
 use Rattle.remora.specs.Formulas as theory
 use Rattle.remora.specs.Formulas.{Function, primitive, formula, fold, append, reversal, scalars, shaped, cells, result_cell}
 use Rattle.remora.specs.Shapes.{size, allowed, principal}
-use Rattle.remora.specs.Questions.{Question, type_at, earlier, cells_fit, foldable, first_axis, has_axis, second_cell, same_base, same_shape, frames, first_no, principal_frame, applied, questions_of, operand_questions}
-use Rattle.remora.specs.Machine.{Operand, Plan, plan_of, operands_of, frame_operands, kind_for, number_of, items_of, item_of}
+use Rattle.remora.specs.Questions.{Question, type_at, earlier, cells_fit, foldable, first_axis, has_axis, second_cell, same_base, same_shape, frames, first_no, principal_frame, applied, questions_of, operand_questions, function_of, shape_question}
+use Rattle.remora.specs.Machine.{Operand, Plan, plan_of, operands_of, frame_operands, number_of, items_of, item_of}
+use Rattle.remora.specs.Machine as machine
 use Rattle.shapes.specs.declared.ArrayType.{ArrayType}
-use Rattle.shapes.specs.Axes.{array_type}
+use Rattle.shapes.specs.Axes.{array_type, dims}
 use Rattle.shapes.proofs.Products.{size_allowed}
 use Rattle.lines.specs.declared.refusals.Refusal.{Refusal}
-use Rattle.lines.specs.declared.refusals.Refusal.TheVariants.{BadFunction}
+use Rattle.lines.specs.declared.fields.Fields.{Fields}
+use Rattle.lines.specs.declared.given.Kind.{Kind}
+use Rattle.lines.specs.declared.given.Kind.TheVariants.{Literal, Parameter, Frame, Operator, Call, Fold, Append, Reverse}
+use Rattle.lines.specs.Lines.{line_with, number_for, kind_for}
+use Rattle.lines.proofs.Keeping.{kind_is}
+use Rattle.lines.specs.declared.refusals.Refusal.TheVariants.{BadFunction, BadContents}
+use Rattle.typing.specs.declared.asked.Asked.{Asked}
+use Rattle.typing.specs.declared.found.Context.{Context}
 use Rattle.typing.specs.declared.found.Entry.{Entry}
 use Rattle.typing.specs.declared.found.Items.{Items}
+use Rattle.typing.specs.declared.found.Lift.{Lift}
 use Rattle.typing.specs.declared.found.Typed.{Typed}
 use Rattle.typing.specs.Typings.{types_of, answer_at, Refused, Judged, operands_asked, shape_asked}
-use Rattle.typing.specs.Plans.{AllAllowed, planned_operands, FoundAs, TypedAs, Applies, Applied, Folded, Appended, small, items_in, entry_of, known_in, usable_in}
+use Rattle.typing.specs.Plans.{AllAllowed, lift_at, planned_operands, FoundAs, RuledAs, Ruled, AskedOf, Applies, Applied, Folded, Appended, small, items_in, entry_of, known_in, usable_in}
 use Rattle.typing.proofs.Judging.{all_yes, yes_all, judged_yes, judged_as, refused_no}
 use Rattle.typing.proofs.Repeating.{allowed_parts, allowed_back, small_is, planned_lifted}
 
@@ -29,24 +38,6 @@ few_operands n os h = let e = length-take n os in omega arith
 scalars_length : (bs : List ℕ) → length (scalars bs) ≡ length bs
 scalars_length [] = refl
 scalars_length (b ∷ bs) = ap suc (scalars_length bs)
-
-pub scalars_three : (bs : List ℕ) (x y z : theory.ArrayType) → length bs ≡ 3 → x ≡ shaped (get_or bs 0 0) [] → y ≡ shaped (get_or bs 1 0) [] → z ≡ shaped (get_or bs 2 0) [] → x ∷ y ∷ z ∷ [] ≡ scalars bs
-scalars_three [] x y z h ex ey ez = absurd (omega arith)
-scalars_three (a ∷ []) x y z h ex ey ez = absurd (omega arith)
-scalars_three (a ∷ b ∷ []) x y z h ex ey ez = absurd (omega arith)
-scalars_three (a ∷ b ∷ c ∷ []) x y z h ex ey ez = ap (λ (u : theory.ArrayType). u ∷ y ∷ z ∷ []) ex ∙ ap (λ (u : theory.ArrayType). shaped a [] ∷ u ∷ z ∷ []) ey ∙ ap (λ (u : theory.ArrayType). shaped a [] ∷ shaped b [] ∷ u ∷ []) ez
-scalars_three (a ∷ b ∷ c ∷ d ∷ bs) x y z h ex ey ez = absurd (omega arith)
-
--- the first base types
-pub scalars_take : (n : ℕ) (bs : List ℕ) (ts : List ArrayType) → types_of ts ≡ scalars bs → types_of (take n ts) ≡ scalars (take n bs)
-scalars_take zero bs ts e = refl
-scalars_take (suc n) [] [] e = refl
-scalars_take (suc n) [] (t ∷ ts) e = let z = ap length e in absurd (omega arith)
-scalars_take (suc n) (b ∷ bs) [] e = let z = ap length e in absurd (omega arith)
-scalars_take (suc n) (b ∷ bs) (t ∷ ts) e =
-    let here : array_type t ≡ shaped b [] = cc in
-    let rest : types_of ts ≡ scalars bs = cc in
-    ap (λ (u : theory.ArrayType). u ∷ types_of (take n ts)) here ∙ ap (λ (us : List theory.ArrayType). shaped b [] ∷ us) (scalars_take n bs ts rest)
 
 -- ---- what is known of a formula
 
@@ -84,17 +75,9 @@ pub some_axis : (s : List ℕ) → (length s ≡ 0 → ⊥) → has_axis s ≡ t
 some_axis [] h = absurd (h refl)
 some_axis (x ∷ s) h = refl
 
--- two operands of the result's base type
-pub foldable_is : (n r : ℕ) (bs : List ℕ) → length bs ≡ 3 → (eqb n 2 && (eqb (get_or bs 0 0) r && eqb (get_or bs 1 0) r)) ≡ foldable (take n bs) r
-foldable_is n r [] h = absurd (omega arith)
-foldable_is n r (a ∷ []) h = absurd (omega arith)
-foldable_is n r (a ∷ b ∷ []) h = absurd (omega arith)
-foldable_is zero r (a ∷ b ∷ c ∷ []) h = refl
-foldable_is (suc zero) r (a ∷ b ∷ c ∷ []) h = refl
-foldable_is (suc (suc zero)) r (a ∷ b ∷ c ∷ []) h = refl
-foldable_is (suc (suc (suc zero))) r (a ∷ b ∷ c ∷ []) h = refl
-foldable_is (suc (suc (suc (suc n)))) r (a ∷ b ∷ c ∷ []) h = and_left (eqb (suc (suc (suc (suc n)))) 2) (eqb a r && eqb b r) (ne_eqb (suc (suc (suc (suc n)))) 2 (λ e. omega arith))
-foldable_is n r (a ∷ b ∷ c ∷ d ∷ bs) h = absurd (omega arith)
+no_axis : (s : List ℕ) → length s ≡ 0 → has_axis s ≡ false
+no_axis [] h = refl
+no_axis (x ∷ s) h = absurd (omega arith)
 
 -- ---- a first axis beyond 32 bits
 
@@ -119,15 +102,15 @@ applied_small types ws os d b x y z line r e a = go (cases_lt 4294967295 x) r a
         ap (λ (v : Bool). answer_at line (first_no (operands_asked types ws os ++ (13, v) ∷ []))) (not_allowed (principal (frames types ws os)) d x (omega arith) ∙ sym (not_allowed (principal (frames types ws os)) d y (omega arith))) ∙ a
 
 -- operands of a frame line from number i on
-framed_from : (cell os : List ℕ) (t : Typed) (i : ℕ) → ((j : ℕ) → j < i + length os → (get_or t.repeats j 0 ≡ 1) × (get_or t.sizes j 0 ≡ size cell)) → planned_operands t i os ≡ frame_operands cell os
+framed_from : (cell os : List ℕ) (t : Typed) (i : ℕ) → ((j : ℕ) → j < i + length os → ((lift_at t.lifts j).repeats ≡ 1) × ((lift_at t.lifts j).size ≡ size cell)) → planned_operands t i os ≡ frame_operands cell os
 framed_from cell [] t i each = refl
 framed_from cell (o ∷ os) t i each =
     let here = each i (omega arith) in
-    ap (λ (n : ℕ). record { line = o; repeats = n; size = get_or t.sizes i 0 } ∷ planned_operands t (suc i) os) here.0
+    ap (λ (n : ℕ). record { line = o; repeats = n; size = (lift_at t.lifts i).size } ∷ planned_operands t (suc i) os) here.0
     ∙ ap (λ (n : ℕ). record { line = o; repeats = 1; size = n } ∷ planned_operands t (suc i) os) here.1
     ∙ ap (λ (us : List Operand). record { line = o; repeats = 1; size = size cell } ∷ us) (framed_from cell os t (suc i) (λ j h. each j (omega arith)))
 
-four_same : (x j : ℕ) → j < 4 → get_or (x ∷ x ∷ x ∷ x ∷ []) j 0 ≡ x
+four_same : (x : Lift) (j : ℕ) → j < 4 → lift_at (x ∷ x ∷ x ∷ x ∷ []) j ≡ x
 four_same x zero h = refl
 four_same x (suc zero) h = refl
 four_same x (suc (suc zero)) h = refl
@@ -139,7 +122,7 @@ module _ (m : Meaning) (n : ℕ) (E : ℕ → theory.Entry) (usable : ℕ → Bo
   abbrev pub Applying : Function → List ℕ → Typed → Type 0
   Applying f os t =
       (array_type t.array ≡ theory.type_of (applied m E ps types f os))
-      × (AllAllowed types → (q : ℕ) → made (kind_for f) (number_of f) (planned_operands t 0 os) t.cells t.items t.item (array_type t.array) q ≡ plan_of m E types q (applied m E ps types f os))
+      × (AllAllowed types → (q : ℕ) → made (machine.kind_for f) (number_of f) (planned_operands t 0 os) t.cells t.items.number t.items.atoms (array_type t.array) q ≡ plan_of m E types q (applied m E ps types f os))
 
   module _ (f : Function) (os : List ℕ) (x : Items) (few : length os ≤ 4) (many : length os ≡ length (cells m E f)) (number : x.number ≡ items_of f)
       (atoms : allowed (result_cell m E f).shape ≡ true → x.atoms ≡ item_of f) where
@@ -148,15 +131,15 @@ module _ (m : Meaning) (n : ℕ) (E : ℕ → theory.Entry) (usable : ℕ → Bo
     application t fit h a =
         let p : List ℕ = principal_frame m E ps types f os in
         let parts = allowed_parts p (result_cell m E f).shape h in
-        let k : theory.Kind = kind_for f in
+        let k : theory.Kind = machine.kind_for f in
         let g : ℕ = number_of f in
         let type : theory.ArrayType = shaped (result_cell m E f).base (p ++ (result_cell m E f).shape) in (
           a.type,
           λ all q.
-              ap (λ (us : List Operand). made k g us t.cells t.items t.item (array_type t.array) q) (planned_lifted types (cells m E f) p os t all parts.0 fit (omega arith) few a.lifted)
-              ∙ ap (λ (u : ℕ). made k g (operands_of types p (cells m E f) os) u t.items t.item (array_type t.array) q) a.cells
-              ∙ ap (λ (u : ℕ). made k g (operands_of types p (cells m E f) os) (size p) u t.item (array_type t.array) q) (a.items ∙ number)
-              ∙ ap (λ (u : ℕ). made k g (operands_of types p (cells m E f) os) (size p) (items_of f) u (array_type t.array) q) (a.item ∙ atoms parts.1)
+              ap (λ (us : List Operand). made k g us t.cells t.items.number t.items.atoms (array_type t.array) q) (planned_lifted types (cells m E f) p os t all parts.0 fit (omega arith) few a.lifted)
+              ∙ ap (λ (u : ℕ). made k g (operands_of types p (cells m E f) os) u t.items.number t.items.atoms (array_type t.array) q) a.cells
+              ∙ ap (λ (u : ℕ). made k g (operands_of types p (cells m E f) os) (size p) u t.items.atoms (array_type t.array) q) (ap (λ (v : Items). v.number) a.items ∙ number)
+              ∙ ap (λ (u : ℕ). made k g (operands_of types p (cells m E f) os) (size p) (items_of f) u (array_type t.array) q) (ap (λ (v : Items). v.atoms) a.items ∙ atoms parts.1)
               ∙ ap (λ (u : theory.ArrayType). made k g (operands_of types p (cells m E f) os) (size p) (items_of f) (item_of f) u q) a.type,
         )
 
@@ -264,19 +247,19 @@ module _ (m : Meaning) (n : ℕ) (E : ℕ → theory.Entry) (usable : ℕ → Bo
 
   -- ---- frame lines
 
-  pub framing_ruled : (l : theory.Line) (array : ArrayType) (count s : ℕ) → earlier types l.operands ≡ true → l.function ≤ length l.shape → length l.operands ≡ size (take l.function l.shape)
+  pub framing_ruled : (l : theory.Line) (array : ArrayType) (count : ℕ) (w : Lift) → earlier types l.operands ≡ true → l.function ≤ length l.shape → length l.operands ≡ size (take l.function l.shape)
       → same_base types l.base l.operands ≡ true → same_shape types (drop l.function l.shape) l.operands ≡ true → allowed l.shape ≡ true → length l.operands ≤ 4
-      → array_type array ≡ shaped l.base l.shape → count ≡ length l.operands → s ≡ size (drop l.function l.shape)
+      → array_type array ≡ shaped l.base l.shape → count ≡ length l.operands → w.repeats ≡ 1 → w.size ≡ size (drop l.function l.shape)
       → (first_no (questions_of m n E usable ps types theory.a_frame l) ≡ None)
-      × FoundAs m E ps types theory.a_frame l (record { array = array; cells = count; items = 0; item = 0; repeats = 1 ∷ 1 ∷ 1 ∷ 1 ∷ []; sizes = s ∷ s ∷ s ∷ s ∷ [] })
-  framing_ruled l array count s early rank parts bases shapes h few array-is count_is s_is =
+      × FoundAs m E ps types theory.a_frame l (record { array = array; cells = count; items = record { number = 0; atoms = 0 }; lifts = w ∷ w ∷ w ∷ w ∷ [] })
+  framing_ruled l array count w early rank parts bases shapes h few array-is count_is one s_is =
       let os : List ℕ = l.operands in
-      let t : Typed = record { array = array; cells = count; items = 0; item = 0; repeats = 1 ∷ 1 ∷ 1 ∷ 1 ∷ []; sizes = s ∷ s ∷ s ∷ s ∷ [] } in
+      let t : Typed = record { array = array; cells = count; items = record { number = 0; atoms = 0 }; lifts = w ∷ w ∷ w ∷ w ∷ [] } in
       let p : List ℕ = take l.function l.shape in
       let rank_is : l.function ≡ length p = sym (length-take-le l.function l.shape rank) in
-      let cell_is : s ≡ size (drop (length p) l.shape) = s_is ∙ ap (λ (v : ℕ). size (drop v l.shape)) rank_is in
+      let cell_is : w.size ≡ size (drop (length p) l.shape) = s_is ∙ ap (λ (v : ℕ). size (drop v l.shape)) rank_is in
       let operands-are : planned_operands t 0 os ≡ frame_operands (drop (length p) l.shape) os =
-      framed_from (drop (length p) l.shape) os t 0 (λ j e. let k : j < 4 = omega arith in (four_same 1 j k, four_same s j k ∙ cell_is)) in (
+      framed_from (drop (length p) l.shape) os t 0 (λ j e. let k = four_same w j (omega arith) in (ap (λ (v : Lift). v.repeats) k ∙ one, ap (λ (v : Lift). v.size) k ∙ cell_is)) in (
         yes_all (questions_of m n E usable ps types theory.a_frame l) (early, (and_from _ _ (le-leb _ _ rank) (eq-eqb _ _ parts), (bases, (shapes, (h, tt))))),
         record {
           type = array-is;
@@ -288,14 +271,56 @@ module _ (m : Meaning) (n : ℕ) (E : ℕ → theory.Entry) (usable : ℕ → Bo
         },
       )
 
-  -- ---- the rule, from that of the line's kind
+-- ---- the rule for a line, from that for lines of its kind
 
-  pub typed_refused : (l : theory.Line) (k : theory.Kind) (line : ℕ) (out : Typed) (e : Refusal) (r : Result (Unit {0}) Refusal) → theory.kind_of l.kind ≡ k → r ≡ Err e
-      → Refused (questions_of m n E usable ps types k l) line e → TypedAs m n E usable ps types l line out r out
-  typed_refused l k line out e r h is j =
-      subst (λ (v : Result (Unit {0}) Refusal). TypedAs m n E usable ps types l line out v out) (sym is) (subst (λ (v : theory.Kind). Refused (questions_of m n E usable ps types v l) line e) (sym h) j, refl)
+-- A rule for the kind of a line is the rule for the line.
+pub ruled_at : (m : Meaning) (x : Context) (l : theory.Line) (k : theory.Kind) (line : ℕ) (r : Result Typed Refusal) → theory.kind_of l.kind ≡ k → RuledAs m x k l line r → Ruled m x l line r
+ruled_at m x l k line r is = subst (λ (v : theory.Kind). RuledAs m x v l line r) (sym is)
 
-  pub typed_found : (l : theory.Line) (k : theory.Kind) (line : ℕ) (out t : Typed) (u : Unit {0}) → theory.kind_of l.kind ≡ k
-      → (first_no (questions_of m n E usable ps types k l) ≡ None) × FoundAs m E ps types k l t → TypedAs m n E usable ps types l line out (Ok u) t
-  typed_found l k line out t u h found =
-      subst (λ (v : theory.Kind). (first_no (questions_of m n E usable ps types v l) ≡ None) × FoundAs m E ps types v l t) (sym h) found
+-- The codes of a line that is no literal are not looked at.
+pub without_codes : (m : Meaning) (x : Context) (f : Fields) (cs : List ℕ) (line : ℕ) (k : Kind) (r : Result Typed Refusal) → (k ≡ Literal → ⊥) → RuledAs m x (kind_for k) (line_with f []) line r → RuledAs m x (kind_for k) (line_with f cs) line r
+without_codes m x f cs line Literal r ne j = absurd (ne refl)
+without_codes m x f cs line Parameter (Ok t) ne j = (j.0, record { type = j.1.type; plan = j.1.plan })
+without_codes m x f cs line Parameter (Err e) ne j = j
+without_codes m x f cs line Frame (Ok t) ne j = (j.0, record { type = j.1.type; plan = j.1.plan })
+without_codes m x f cs line Frame (Err e) ne j = j
+without_codes m x f cs line Operator (Ok t) ne j = (j.0, record { type = j.1.type; plan = j.1.plan })
+without_codes m x f cs line Operator (Err e) ne j = j
+without_codes m x f cs line Call (Ok t) ne j = (j.0, record { type = j.1.type; plan = j.1.plan })
+without_codes m x f cs line Call (Err e) ne j = j
+without_codes m x f cs line Fold (Ok t) ne j = (j.0, record { type = j.1.type; plan = j.1.plan })
+without_codes m x f cs line Fold (Err e) ne j = j
+without_codes m x f cs line Append (Ok t) ne j = (j.0, record { type = j.1.type; plan = j.1.plan })
+without_codes m x f cs line Append (Err e) ne j = j
+without_codes m x f cs line Reverse (Ok t) ne j = (j.0, record { type = j.1.type; plan = j.1.plan })
+without_codes m x f cs line Reverse (Err e) ne j = j
+
+-- So a rule for a line of a kind that is no literal is the rule for the line with its codes.
+pub kind_ruled : (m : Meaning) (x : Context) (f : Fields) (cs : List ℕ) (line : ℕ) (k : Kind) (r : Result Typed Refusal) → (k ≡ Literal → ⊥) → f.kind ≡ k → RuledAs m x (kind_for k) (line_with f []) line r → Ruled m x (line_with f cs) line r
+kind_ruled m x f cs line k r ne is j =
+    ruled_at m x (line_with f cs) (kind_for k) line r (ap (λ (v : Kind). theory.kind_of (number_for v)) is ∙ kind_is k) (without_codes m x f cs line k r ne j)
+
+-- The same of a line that is asked on.
+pub asked_ruled : (m : Meaning) (x : Context) (f : Fields) (cs : List ℕ) (line : ℕ) (a : Asked) (k : Kind) (r : Result Typed Refusal) → (k ≡ Literal → ⊥) → f.kind ≡ k → AskedOf x f line (Some a)
+    → RuledAs m a.context.now (kind_for k) (line_with a.fields.now []) a.line r → Ruled m x (line_with f cs) line r
+asked_ruled m x f cs line a k r ne is asked j =
+    kind_ruled m x f cs line k r ne is
+    (subst (λ (v : ℕ). RuledAs m x (kind_for k) (line_with f []) v r) asked.2
+    (subst (λ (v : Fields). RuledAs m x (kind_for k) (line_with v []) a.line r) asked.1
+    (subst (λ (v : Context). RuledAs m v (kind_for k) (line_with a.fields.now []) a.line r) asked.0 j)))
+
+-- An append of cells without an axis is refused by question 8.
+pub append_refused : (m : Meaning) (x : Context) (f : Fields) (cs : List ℕ) (line : ℕ) (a : Asked) → f.kind ≡ Append → AskedOf x f line (Some a) → length (take f.count f.operands) ≡ 2 → length (dims f.shape) ≡ 0
+    → Ruled m x (line_with f cs) line (Err (BadContents line))
+append_refused m x f cs line a is asked two none =
+    let early : earlier (types_of x.types.now) (take f.count f.operands) ≡ true =
+    subst (λ (v : Fields). earlier (types_of x.types.now) (take v.count v.operands) ≡ true) asked.1 (subst (λ (v : Context). earlier (types_of v.types.now) (take a.fields.now.count a.fields.now.operands) ≡ true) asked.0 a.earlier) in
+    let l : theory.Line = line_with f [] in
+    let es = x.formulas.now in
+    let ps : List theory.ArrayType = types_of x.parameters.now in
+    let ts : List theory.ArrayType = types_of x.types.now in
+    let rest : List Question =
+    operand_questions m (length es) (known_in es) (usable_in es) ps ts (function_of m (known_in es) ps ts theory.an_append l) l.operands ++ shape_question m (length es) (known_in es) (usable_in es) ps ts theory.an_append l in
+    kind_ruled m x f cs line Append (Err (BadContents line)) (λ e. cc) is
+    (judged_yes (λ (t : Typed). Unit {0}) 7 (earlier (types_of x.types.now) (take f.count f.operands) && eqb (length (take f.count f.operands)) 2) ((8, has_axis (dims f.shape)) ∷ rest) line (Err (BadContents line)) (and_from _ _ early (eq-eqb _ _ two))
+    (refused_no 8 (has_axis (dims f.shape)) rest line (BadContents line) (no_axis (dims f.shape) none) refl))

@@ -1,9 +1,9 @@
 -- What typing finds of a line, as the theory's plan of the line, and the promise of the typing rule.
-use Rattle.std.specs.Prelude.{◌≡◌, ℕ, suc, ◌+◌, ◌<◌, min, Bool, true, false, not, ◌||◌, List, [], ◌∷◌, ◌++◌, map, length, get_or, take, drop, is_some, None, Ok, Err, Option, Result, ◌==◌, slice_index, slice_index_or}
+use Rattle.std.specs.Prelude.{◌≡◌, ℕ, suc, ◌+◌, ◌<◌, min, Bool, true, false, not, ◌||◌, List, [], ◌∷◌, ◌++◌, map, length, get_or, take, drop, is_some, Some, None, Ok, Err, Option, Result, ◌==◌, slice_index, slice_index_or}
 use Rattle.remora.specs.Shapes.{size, allowed, principal}
 use Rattle.remora.specs.Algebras.{Meaning}
 use Rattle.remora.specs.Formulas as theory
-use Rattle.remora.specs.Questions.{first_no, type_at, frames, questions_of, questions, typed_as}
+use Rattle.remora.specs.Questions.{first_no, earlier, type_at, frames, questions_of, questions, typed_as}
 use Rattle.remora.specs.Evaluation.{repeats}
 use Rattle.remora.specs.Numbers.{no_entry}
 use Rattle.remora.specs.Machine.{Operand, Plan, plan_of}
@@ -11,8 +11,12 @@ use Rattle.shapes.specs.Axes.{array_type}
 use Rattle.lines.specs.declared.refusals.Refusal.{Refusal}
 use Rattle.typing.specs.declared.found.Entry.{Entry}
 use Rattle.typing.specs.declared.found.Items.{Items}
+use Rattle.typing.specs.declared.found.Lift.{Lift}
 use Rattle.typing.specs.declared.found.Typed.{Typed}
 use Rattle.typing.specs.declared.found.Context.{Context}
+use Rattle.typing.specs.declared.asked.Asked.{Asked}
+use Rattle.lines.specs.declared.fields.Fields.{Fields}
+use Rattle.lines.specs.Lines.{line_with}
 use Rattle.typing.specs.Typings.{types_of, Refused, Judged, operands_asked, shape_asked}
 
 -- ---- what is known of formulas
@@ -35,10 +39,14 @@ usable_in es g = not (slice_index_or (map mark_of es) g false)
 
 -- ---- plans
 
+-- How operand i is lifted, not at all if there are fewer.
+abbrev pub lift_at : List Lift → ℕ → Lift
+lift_at ls i = slice_index_or ls i (record { repeats = 0; size = 0 })
+
 -- The operands of a plan, from operand i on: each with its repeats and the atoms of a cell.
 abbrev pub planned_operands : Typed → ℕ → List ℕ → List Operand
 planned_operands t i [] = []
-planned_operands t i (o ∷ os) = record { line = o; repeats = slice_index t.repeats i; size = slice_index t.sizes i } ∷ planned_operands t (suc i) os
+planned_operands t i (o ∷ os) = record { line = o; repeats = (lift_at t.lifts i).repeats; size = (lift_at t.lifts i).size } ∷ planned_operands t (suc i) os
 
 -- The number that the plan of a line of this kind names: a parameter, the rank of a frame, an operator or a formula.
 abbrev pub planned_function : theory.Kind → ℕ → ℕ
@@ -79,7 +87,7 @@ codes_for theory.no_kind cs = []
 -- The plan of a line of this kind with what typing found, at this offset.
 abbrev pub planned_as : theory.Kind → theory.Line → Typed → ℕ → Plan
 planned_as k l t q =
-    record { kind = k; function = planned_function k l.function; operands = planned_operands t 0 (operands_for k l.operands); cells = t.cells; items = t.items; item = t.item; type = array_type t.array; offset = q; codes = codes_for k l.codes }
+    record { kind = k; function = planned_function k l.function; operands = planned_operands t 0 (operands_for k l.operands); cells = t.cells; items = t.items.number; item = t.items.atoms; type = array_type t.array; offset = q; codes = codes_for k l.codes }
 
 -- The plan of a line with what typing found, at this offset.
 abbrev pub planned : theory.Line → Typed → ℕ → Plan
@@ -107,6 +115,15 @@ RuledAs m x k l line r =
     Judged (questions_of m (length x.formulas.now) (known_in x.formulas.now) (usable_in x.formulas.now) (types_of x.parameters.now) (types_of x.types.now) k l)
     (FoundAs m (known_in x.formulas.now) (types_of x.parameters.now) (types_of x.types.now) k l) line r
 
+-- The rule for a line by its own kind.
+abbrev pub Ruled : Meaning → Context → theory.Line → ℕ → Result Typed Refusal → Type 0
+Ruled m x l line r = RuledAs m x (theory.kind_of l.kind) l line r
+
+-- Lines are asked on exactly where their operands name earlier lines.
+abbrev pub AskedOf : Context → Fields → ℕ → Option Asked → Type 0
+AskedOf x f line None = earlier (types_of x.types.now) (line_with f []).operands ≡ false
+AskedOf x f line (Some a) = (a.context.now ≡ x) × (a.fields.now ≡ f) × (a.line ≡ line)
+
 -- Typing a line: all its questions are answered by yes and what was found is written; or the refusal is the one for its first no, and nothing is written.
 abbrev pub TypedAs : Meaning → ℕ → (ℕ → theory.Entry) → (ℕ → Bool) → List theory.ArrayType → List theory.ArrayType → theory.Line → ℕ → Typed → Result (Unit {0}) Refusal → Typed → Type 0
 TypedAs m n E usable ps types l line before (Ok u) after = (first_no (questions m n E usable ps types l) ≡ None) × Found m E ps types l after
@@ -124,22 +141,21 @@ abbrev pub small : ℕ → ℕ
 small n = min n 4294967295
 
 -- How operand i is lifted to a frame, as numbers of 32 bits: how often a cell of it is repeated, and how many atoms a cell has.
-abbrev pub LiftedAt : List theory.ArrayType → List theory.ArrayType → List ℕ → List ℕ → List ℕ → List ℕ → ℕ → Type 0
-LiftedAt types ws os p rs ss i =
-    (slice_index rs i ≡ small (repeats p (get_or ws i theory.no_type).shape (type_at types (slice_index os i)).shape))
-    × (slice_index ss i ≡ small (size (get_or ws i theory.no_type).shape))
+abbrev pub LiftedBy : List theory.ArrayType → List theory.ArrayType → List ℕ → List ℕ → ℕ → Lift → Type 0
+LiftedBy types ws os p i l =
+    (l.repeats ≡ small (repeats p (get_or ws i theory.no_type).shape (type_at types (slice_index os i)).shape))
+    × (l.size ≡ small (size (get_or ws i theory.no_type).shape))
 
 -- How the operands, as far as they are wanted and no more than four, are lifted to a frame.
-abbrev pub Lifted : List theory.ArrayType → List theory.ArrayType → List ℕ → List ℕ → List ℕ → List ℕ → Type 0
-Lifted types ws os p rs ss = (i : ℕ) → i < length os → i < length ws → i < 4 → LiftedAt types ws os p rs ss i
+abbrev pub Lifted : List theory.ArrayType → List theory.ArrayType → List ℕ → List ℕ → List Lift → Type 0
+Lifted types ws os p ls = (i : ℕ) → i < length os → i < length ws → i < 4 → LiftedBy types ws os p i (lift_at ls i)
 
 -- What is found of an application with cells of this type in this frame: its type, its number of cells, how its operands are lifted, and the items of a first cell.
 pub record Applies (types ws : List theory.ArrayType) (os p : List ℕ) (cell : theory.ArrayType) (x : Items) (t : Typed) : Type 0 where
   pub type : array_type t.array ≡ theory.shaped cell.base (p ++ cell.shape)
   pub cells : t.cells ≡ size p
-  pub lifted : Lifted types ws os p t.repeats t.sizes
-  pub items : t.items ≡ x.number
-  pub item : t.item ≡ x.atoms
+  pub lifted : Lifted types ws os p t.lifts
+  pub items : t.items ≡ x
 
 -- What is found of an application that is no fold, with these cells of its operands and this one of its result, or its first no from question 9 on.
 abbrev pub Applied : List theory.ArrayType → List theory.ArrayType → List ℕ → theory.ArrayType → Items → ℕ → Result Typed Refusal → Type 0

@@ -1,5 +1,5 @@
 -- Types of the code as types of the theory.
-use Rattle.std.specs.Prelude.{◌≡◌, ℕ, Bool, true, false, List, [], ◌∷◌, ◌++◌, map, Some, None, Ok, Err, Option, Result}
+use Rattle.std.specs.Prelude.{◌≡◌, ℕ, true, false, List, [], ◌∷◌, ◌++◌, map, Some, None, Ok, Err, Option, Result}
 use Rattle.remora.specs.Shapes.{allowed, agree, principal}
 use Rattle.remora.specs.Questions.{Question, first_no, bases_fit, cells_fit, frames}
 use Rattle.remora.specs.Calls.{Answer, refused}
@@ -40,6 +40,11 @@ operands_asked types cells os = (9, bases_fit types cells os) ∷ (10, cells_fit
 -- The principal frame of operands of which these cells are wanted, or the first no of questions 9 to 11.
 abbrev pub Framed : List theory.ArrayType → List theory.ArrayType → List ℕ → ℕ → Result Shape Refusal → Type 0
 Framed types cells os line r = Judged (operands_asked types cells os) (λ s. dims s ≡ principal (frames types cells os)) line r
+
+-- Cells in a frame make a whole shape exactly where that is allowed.
+abbrev pub Whole : List ℕ → List ℕ → Option Shape → Type 0
+Whole p d None = allowed (p ++ d) ≡ false
+Whole p d (Some s) = (allowed (p ++ d) ≡ true) × (dims s ≡ p ++ d)
 
 -- Question 13, on a shape.
 abbrev pub shape_asked : List ℕ → List Question

@@ -4,7 +4,7 @@ ghost use Rattle.remora.specs.Questions.{in_set, same_base, same_shape};
 ghost use Rattle.shapes.specs.Axes.{dims};
 ghost use Rattle.typing.specs.Typings.{types_of};
 
-use super::operands::{has_base, type_at};
+use super::operands::type_at;
 use algebra::Algebra;
 use shapes::{ArrayType, Shape};
 
@@ -12,47 +12,33 @@ use shapes::{ArrayType, Shape};
 fn has_code<A: Algebra>(base: u32, code: u64) -> bool
     ensures { result ≡ A.meaning.holds base code }
 {
-    if base > 255 {
-        return false;
+    match u8::try_from(base) {
+        Ok(base) => A::read(base, code).is_some(),
+        Err(_) => false,
     }
-    A::read(base as u8, code).is_some()
 }
 
 /// Whether the base type has each of the codes.
 pub fn has_codes<A: Algebra>(base: u32, codes: &[u64]) -> bool
     ensures { result ≡ in_set A.meaning.holds base codes.now }
 {
-    for code in codes {
-        if !has_code::<A>(base, *code) {
-            return false;
-        }
-    }
-    true
+    codes.iter().all(|code| has_code::<A>(base, *code))
 }
 
 /// Whether each operand has this base type.
 pub fn parts_of_base(types: &[ArrayType], base: u32, operands: &[u32]) -> bool
     ensures { result ≡ same_base (types_of types.now) base operands.now }
 {
-    for operand in operands {
-        let given = type_at(types, *operand);
-        if !has_base(given, base) {
-            return false;
-        }
-    }
-    true
+    operands
+        .iter()
+        .all(|operand| type_at(types, *operand).base == base)
 }
 
 /// Whether each operand has this shape.
 pub fn parts_of_shape(types: &[ArrayType], shape: Shape, operands: &[u32]) -> bool
     ensures { result ≡ same_shape (types_of types.now) (dims shape) operands.now }
 {
-    for operand in operands {
-        let given = type_at(types, *operand);
-        let same = given.shape.same(shape);
-        if !same {
-            return false;
-        }
-    }
-    true
+    operands
+        .iter()
+        .all(|operand| type_at(types, *operand).shape == shape)
 }

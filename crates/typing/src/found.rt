@@ -5,6 +5,7 @@ use shapes::ArrayType;
 
 /// What is known of a formula by its number: the types of its parameters, of which the first `count` count, that of its result, its
 /// forecasts, and whether it is withdrawn.
+// The parameters are kept in place, with their number beside them: entries stand in tables of fixed size, without a heap.
 #[derive(Clone, Copy)]
 pub struct Entry {
     pub all: [ArrayType; 4],
@@ -32,21 +33,48 @@ impl Entry {
     pub fn parameters(&self) -> &[ArrayType]
         ensures { result.now ≡ take self.now.count self.now.all }
     {
-        let count = (self.count as usize).min(4);
-        &self.all[0..count]
+        let count = usize::from(self.count).min(4);
+        &self.all[..count]
     }
 }
 
-/// What typing finds of a line: its type, the number of its cells, the items of a cell and the atoms of an item, and of each operand
-/// how often a cell of it is repeated and how many atoms a cell has.
+/// How an operand is lifted to a frame: how often a cell of it is repeated, and how many atoms a cell has.
+#[derive(Clone, Copy, Debug, PartialEq, Eq)]
+pub struct Lift {
+    pub repeats: u32,
+    pub size: u32,
+}
+
+impl Lift {
+    /// What stands where there is no operand.
+    pub const NONE: Lift = Lift {
+        repeats: 0,
+        size: 0,
+    };
+}
+
+/// The items of a cell: how many there are, and how many atoms each has.
+#[derive(Clone, Copy, Debug, PartialEq, Eq)]
+pub struct Items {
+    pub number: u32,
+    pub atoms: u32,
+}
+
+impl Items {
+    /// What stands where a cell is not taken apart.
+    pub const NONE: Items = Items {
+        number: 0,
+        atoms: 0,
+    };
+}
+
+/// What typing finds of a line: its type, the number of its cells, the items of a cell, and how each operand is lifted.
 #[derive(Clone, Copy)]
 pub struct Typed {
     pub array: ArrayType,
     pub cells: u32,
-    pub items: u32,
-    pub item: u32,
-    pub repeats: [u32; 4],
-    pub sizes: [u32; 4],
+    pub items: Items,
+    pub lifts: [Lift; 4],
 }
 
 impl Typed {
@@ -54,25 +82,8 @@ impl Typed {
     pub const NONE: Typed = Typed {
         array: ArrayType::NOTHING,
         cells: 0,
-        items: 0,
-        item: 0,
-        repeats: [0; 4],
-        sizes: [0; 4],
-    };
-}
-
-/// The items of a cell: how many there are, and how many atoms each has.
-#[derive(Clone, Copy)]
-pub(crate) struct Items {
-    pub(crate) number: u32,
-    pub(crate) atoms: u32,
-}
-
-impl Items {
-    /// What stands where a cell is not taken apart.
-    pub(crate) const NONE: Items = Items {
-        number: 0,
-        atoms: 0,
+        items: Items::NONE,
+        lifts: [Lift::NONE; 4],
     };
 }
 

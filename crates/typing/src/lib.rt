@@ -2,6 +2,7 @@
 #![tactic(auto)]
 
 mod applications;
+mod asked;
 mod contents;
 mod found;
 mod kinds;
@@ -9,16 +10,16 @@ mod lifting;
 mod operands;
 mod rules;
 
-pub use found::{Context, Entry, Typed};
+pub use applications::spread;
+pub use contents::{has_codes, parts_of_base, parts_of_shape};
+pub use found::{Context, Entry, Items, Lift, Typed};
+pub use operands::{Application, all_earlier};
 pub use rules::type_line;
 
 #[cfg(test)]
 mod tests {
-    use super::applications::applied;
-    use super::found::Items;
-    use super::operands::{cells_fit, joined_frames};
     use super::*;
-    use counts::{ADD, Counts, LESS, SUB};
+    use counts::{Counts, Operator};
     use lines::{Fields, Line, Refusal};
     use shapes::{ArrayType, Shape};
     use std::test::Fail;
@@ -29,13 +30,26 @@ mod tests {
         Ok(ArrayType { base: 0, shape })
     }
 
+    // Operands among lines of these types, with the cells that are wanted of them.
+    fn application<'a>(
+        types: &'a [ArrayType],
+        wanted: &'a [ArrayType],
+        operands: &'a [u32],
+    ) -> Application<'a> {
+        Application {
+            types,
+            wanted,
+            operands,
+        }
+    }
+
     #[test]
     fn frames_are_compared_in_all_pairs(rt: HostRuntime) -> Result<(), Fail> {
         let types = [array(&[2])?, array(&[])?, array(&[3])?];
         let scalars = [array(&[])?, array(&[])?, array(&[])?];
-        assert!(rt; joined_frames(&types, &scalars, &[0, 1]).0);
-        assert!(rt; joined_frames(&types, &scalars, &[1, 2]).0);
-        assert!(rt; !joined_frames(&types, &scalars, &[0, 1, 2]).0);
+        assert!(rt; application(&types, &scalars, &[0, 1]).frame().is_some());
+        assert!(rt; application(&types, &scalars, &[1, 2]).frame().is_some());
+        assert!(rt; application(&types, &scalars, &[0, 1, 2]).frame().is_none());
         Ok(())
     }
 
@@ -43,11 +57,10 @@ mod tests {
     fn leading_axes_are_matched(rt: HostRuntime) -> Result<(), Fail> {
         let types = [array(&[3])?, array(&[3, 2])?, array(&[2, 3])?];
         let scalars = [array(&[])?, array(&[])?];
-        let (agree, frame) = joined_frames(&types, &scalars, &[0, 1]);
-        assert!(rt; agree && frame.same(types[1].shape));
-        assert!(rt; !joined_frames(&types, &scalars, &[0, 2]).0);
-        assert!(rt; cells_fit(&types, &[array(&[3])?], &[2]));
-        assert!(rt; !cells_fit(&types, &[array(&[2])?], &[2]));
+        assert!(rt; application(&types, &scalars, &[0, 1]).frame() == Some(types[1].shape));
+        assert!(rt; application(&types, &scalars, &[0, 2]).frame().is_none());
+        assert!(rt; application(&types, &[array(&[3])?], &[2]).cells_fit());
+        assert!(rt; !application(&types, &[array(&[2])?], &[2]).cells_fit());
         Ok(())
     }
 
@@ -55,19 +68,56 @@ mod tests {
     fn a_short_frame_is_repeated(rt: HostRuntime) -> Result<(), Fail> {
         let types = [array(&[2])?, array(&[2, 4])?];
         let scalars = [array(&[])?, array(&[])?];
-        match applied(&types, &scalars, &[0, 1], scalars[0], Items::NONE, 5) {
-            Ok(found) => {
-                assert!(rt; found.array.same(types[1]));
-                assert!(rt; found.cells == 8);
-                assert!(rt; found.repeats[0] == 4 && found.repeats[1] == 1);
-                assert!(rt; found.sizes[0] == 1 && found.sizes[1] == 1);
-                Ok(())
-            }
-            Err(_) => {
-                assert!(rt; false);
-                Ok(())
-            },
+        let found = application(&types, &scalars, &[0, 1])
+            .applied(scalars[0], Items::NONE, 5)
+            .ok()
+            .ok_or("refused")?;
+        assert!(rt; found.array == types[1]);
+        assert_eq!(rt; found.cells, 8);
+        assert_eq!(rt; found.lifts[0].repeats, 4);
+        assert_eq!(rt; found.lifts[1].repeats, 1);
+        assert_eq!(rt; found.lifts[0].size, 1);
+        assert_eq!(rt; found.lifts[1].size, 1);
+        Ok(())
+    }
+
+    // The number of a refusal, 0 if nothing is refused.
+    fn number<T: Drop>(judged: Result<T, Refusal>) -> u8 {
+        match judged {
+            Ok(_) => 0,
+            Err(refusal) => refusal.number(),
         }
+    }
+
+    #[test]
+    fn an_application_is_refused_by_its_first_no(rt: HostRuntime) -> Result<(), Fail> {
+        let flags = ArrayType {
+            base: 1,
+            shape: array(&[3])?.shape,
+        };
+        let types = [array(&[2])?, flags, array(&[3])?, array(&[2, 4])?];
+        let scalars = [array(&[])?, array(&[])?];
+        let cell = scalars[0];
+        let none = Items::NONE;
+        let wide = array(&[65536])?;
+        let longer = [array(&[4])?];
+        let of_both = application(&types, &scalars, &[0, 3]);
+        assert_eq!(rt;
+            number(application(&types, &scalars, &[0, 1]).applied(cell, none, 5)),
+            9
+        );
+        assert_eq!(rt;
+            number(application(&types, &scalars, &[0, 2]).applied(cell, none, 5)),
+            11
+        );
+        assert_eq!(rt;
+            number(application(&types, &longer, &[2]).applied(cell, none, 5)),
+            10
+        );
+        assert_eq!(rt; number(of_both.applied(wide, none, 5)), 13);
+        let found = of_both.applied(cell, none, 5).ok().ok_or("refused")?;
+        assert!(rt; found.array == types[3]);
+        Ok(())
     }
 
     // A line with a function and operands.
@@ -82,21 +132,22 @@ mod tests {
         }
     }
 
-    // The number of the first no on a line after lines of these types, 0 if there is none.
-    fn first_no(types: &[ArrayType], line: &Line) -> u8 {
-        let context = Context {
+    // What a line is typed in after lines of these types, without parameters and formulas.
+    fn after(types: &[ArrayType]) -> Context<'_> {
+        Context {
             parameters: &[],
             types,
             formulas: &[],
-        };
+        }
+    }
+
+    // The number of the first no on a line, 0 if there is none.
+    fn first_no(context: &Context, line: &Line) -> u8 {
         let Some(fields) = Fields::of::<Counts>(line) else {
             return Refusal::BadField.number();
         };
         let mut found = Typed::NONE;
-        match type_line::<Counts>(&context, &fields, line.codes, 3, &mut found) {
-            Ok(()) => 0,
-            Err(refusal) => refusal.number(),
-        }
+        number(type_line::<Counts>(context, &fields, line.codes, 3, &mut found))
     }
 
     #[test]
@@ -106,39 +157,62 @@ mod tests {
             shape: array(&[3])?.shape,
         };
         let types = [array(&[3])?, flags, array(&[2])?, array(&[0])?];
-        let add = ADD as u32;
-        assert!(rt; first_no(&types, &line(3, &[], add, &[0, 0])) == 0);
-        assert!(rt; first_no(&types, &line(3, &[], add, &[0, 4])) == 7);
-        assert!(rt; first_no(&types, &line(3, &[], add, &[0])) == 7);
-        assert!(rt; first_no(&types, &line(5, &[3], LESS as u32, &[0])) == 7);
-        assert!(rt; first_no(&types, &line(7, &[], 0, &[0])) == 8);
-        assert!(rt; first_no(&types, &line(3, &[], add, &[0, 1])) == 9);
-        assert!(rt; first_no(&types, &line(5, &[2], add, &[0])) == 10);
-        assert!(rt; first_no(&types, &line(3, &[], add, &[0, 2])) == 11);
-        assert!(rt; first_no(&types, &line(5, &[0], SUB as u32, &[3])) == 12);
-        assert!(rt; first_no(&types, &line(5, &[0], add, &[3])) == 0);
+        let context = after(&types);
+        let add = u32::from(u8::from(Operator::Add));
+        let less = u32::from(u8::from(Operator::Less));
+        let sub = u32::from(u8::from(Operator::Sub));
+        assert_eq!(rt; first_no(&context, &line(3, &[], add, &[0, 0])), 0);
+        assert_eq!(rt; first_no(&context, &line(3, &[], add, &[0, 4])), 7);
+        assert_eq!(rt; first_no(&context, &line(3, &[], add, &[0])), 7);
+        assert_eq!(rt; first_no(&context, &line(5, &[3], less, &[0])), 7);
+        assert_eq!(rt; first_no(&context, &line(7, &[], 0, &[0])), 8);
+        assert_eq!(rt; first_no(&context, &line(3, &[], add, &[0, 1])), 9);
+        assert_eq!(rt; first_no(&context, &line(5, &[2], add, &[0])), 10);
+        assert_eq!(rt; first_no(&context, &line(3, &[], add, &[0, 2])), 11);
+        assert_eq!(rt; first_no(&context, &line(5, &[0], sub, &[3])), 12);
+        assert_eq!(rt; first_no(&context, &line(5, &[0], add, &[3])), 0);
         Ok(())
     }
 
     #[test]
     fn an_append_adds_first_axes(rt: HostRuntime) -> Result<(), Fail> {
         let types = [array(&[3])?, array(&[2])?, array(&[65536])?];
-        assert!(rt; first_no(&types, &line(6, &[3], 0, &[0, 1])) == 0);
-        assert!(rt; first_no(&types, &line(6, &[3], 0, &[0])) == 7);
-        assert!(rt; first_no(&types, &line(6, &[3], 0, &[0, 2])) == 13);
-        assert!(rt; first_no(&types, &line(7, &[3], 0, &[0])) == 0);
+        let context = after(&types);
+        assert_eq!(rt; first_no(&context, &line(6, &[3], 0, &[0, 1])), 0);
+        assert_eq!(rt; first_no(&context, &line(6, &[3], 0, &[0])), 7);
+        assert_eq!(rt; first_no(&context, &line(6, &[3], 0, &[0, 2])), 13);
+        assert_eq!(rt; first_no(&context, &line(7, &[3], 0, &[0])), 0);
         Ok(())
     }
 
     #[test]
     fn a_frame_line_puts_cells_of_one_type_together(rt: HostRuntime) -> Result<(), Fail> {
         let types = [array(&[3])?, array(&[3])?, array(&[2])?];
-        assert!(rt; first_no(&types, &line(2, &[2, 3], 1, &[0, 1])) == 0);
-        assert!(rt; first_no(&types, &line(2, &[2, 3], 1, &[0, 3])) == 7);
-        assert!(rt; first_no(&types, &line(2, &[2, 3], 1, &[0])) == 8);
-        assert!(rt; first_no(&types, &line(2, &[2, 3], 3, &[0, 1])) == 8);
-        assert!(rt; first_no(&types, &line(2, &[2, 3], 1, &[0, 2])) == 10);
-        assert!(rt; first_no(&types, &line(2, &[0, 3], 1, &[])) == 0);
+        let context = after(&types);
+        let flags = Line {
+            base: 1,
+            ..line(2, &[2, 3], 1, &[0, 1])
+        };
+        assert_eq!(rt; first_no(&context, &line(2, &[2, 3], 1, &[0, 1])), 0);
+        assert_eq!(rt; first_no(&context, &line(2, &[2, 3], 1, &[0, 3])), 7);
+        assert_eq!(rt; first_no(&context, &line(2, &[2, 3], 1, &[0])), 8);
+        assert_eq!(rt; first_no(&context, &line(2, &[2, 3], 3, &[0, 1])), 8);
+        assert_eq!(rt; first_no(&context, &flags), 9);
+        assert_eq!(rt; first_no(&context, &line(2, &[2, 3], 1, &[0, 2])), 10);
+        assert_eq!(rt; first_no(&context, &line(2, &[0, 3], 1, &[])), 0);
+        Ok(())
+    }
+
+    #[test]
+    fn a_parameter_line_names_a_parameter(rt: HostRuntime) -> Result<(), Fail> {
+        let parameters = [array(&[3])?, array(&[256, 257])?];
+        let context = Context {
+            parameters: &parameters,
+            ..after(&[])
+        };
+        assert_eq!(rt; first_no(&context, &line(1, &[], 0, &[])), 0);
+        assert_eq!(rt; first_no(&context, &line(1, &[], 1, &[])), 13);
+        assert_eq!(rt; first_no(&context, &line(1, &[], 2, &[])), 7);
         Ok(())
     }
 }

@@ -1,40 +1,45 @@
 // How the operands of an application are lifted to its frame: how often a cell of each is repeated, and how many atoms a cell has.
-ghost use Rattle.std.specs.Prelude.{◌≡◌, min};
+ghost use Rattle.std.specs.Prelude.{◌≡◌, ◌<◌, length};
+ghost use Rattle.remora.specs.Shapes.{size};
 ghost use Rattle.remora.specs.Evaluation.{repeats};
 ghost use Rattle.shapes.specs.Axes.{array_type, dims};
 ghost use Rattle.typing.specs.Typings.{types_of};
-ghost use Rattle.typing.specs.Plans.{small, Lifted};
+ghost use Rattle.typing.specs.Plans.{small, LiftedBy, Lifted};
 
-use super::operands::type_at;
+use super::found::Lift;
+use super::operands::{Application, type_at};
 use shapes::{ArrayType, Shape};
+use std::array;
 
-/// How often a cell of an array of this type is repeated in a frame: the size of the frame's axes that its own frame lacks.
-fn repeats_of(given: ArrayType, cell: ArrayType, frame: Shape) -> u32
-    ensures { result ≡ small (repeats (dims frame) (array_type cell).shape (array_type given).shape) }
-{
-    let rank = given.shape.rank().saturating_sub(cell.shape.rank());
-    frame.back(rank).small_size()
+impl Lift {
+    /// How an array of this type is lifted to a frame: by the size of the frame's axes that its own frame lacks.
+    fn of(given: ArrayType, cell: ArrayType, frame: Shape) -> Lift
+        ensures repeats { result.repeats ≡ small (repeats (dims frame) (array_type cell).shape (array_type given).shape) }
+        ensures size { result.size ≡ small (size (array_type cell).shape) }
+    {
+        let rank = given.shape.rank().saturating_sub(cell.shape.rank());
+        Lift {
+            repeats: frame.back(rank).small_size(),
+            size: cell.shape.small_size(),
+        }
+    }
 }
 
-/// The repeats of the operands in a frame, and the sizes of their cells.
-pub(crate) fn lifted(
-    types: &[ArrayType],
-    wanted: &[ArrayType],
-    operands: &[u32],
-    frame: Shape,
-) -> ([u32; 4], [u32; 4])
-    ensures { Lifted (types_of types.now) (types_of wanted.now) operands.now (dims frame) result.0 result.1 }
-{
-    let mut repeats = [0; 4];
-    let mut sizes = [0; 4];
-    let count = operands.len().min(wanted.len()).min(4);
-    for i in 0..count {
-        let given = type_at(types, operands[i]);
-        let cell = wanted[i];
-        let times = repeats_of(given, cell, frame);
-        let size = cell.shape.small_size();
-        repeats[i] = times;
-        sizes[i] = size;
+impl Application<'_> {
+    /// How the operand of this number is lifted to a frame, if there is one and it is wanted.
+    fn lift(&self, i: usize, frame: Shape) -> Lift
+        ensures { i < length self.now.operands.now → i < length self.now.wanted.now → LiftedBy (types_of self.now.types.now) (types_of self.now.wanted.now) self.now.operands.now (dims frame) i result }
+    {
+        match (self.operands.get(i), self.wanted.get(i)) {
+            (Some(operand), Some(cell)) => Lift::of(type_at(self.types, *operand), *cell, frame),
+            _ => Lift::NONE,
+        }
     }
-    (repeats, sizes)
+
+    /// How each operand is lifted to a frame.
+    pub(crate) fn lifted(&self, frame: Shape) -> [Lift; 4]
+        ensures { Lifted (types_of self.now.types.now) (types_of self.now.wanted.now) self.now.operands.now (dims frame) result }
+    {
+        array::from_fn(|i| self.lift(i, frame))
+    }
 }

@@ -25,7 +25,10 @@ pub fn all_earlier(types: &[ArrayType], operands: &[u32]) -> bool
 pub(crate) fn type_at(types: &[ArrayType], operand: u32) -> ArrayType
     ensures { array_type result ≡ type_at (types_of types.now) operand }
 {
-    types.get(operand as usize).copied().unwrap_or(ArrayType::NOTHING)
+    types
+        .get(operand as usize)
+        .copied()
+        .unwrap_or(ArrayType::NOTHING)
 }
 
 /// The axes of a type before a cell of this type: as many as it has more.
@@ -46,22 +49,28 @@ pub struct Application<'a> {
 
 impl Application<'_> {
     /// Whether each operand has the base type that is wanted of it.
-    pub fn bases_fit(self) -> bool
-        ensures { result ≡ bases_fit (types_of self.types.now) (types_of self.wanted.now) self.operands.now }
+    pub fn bases_fit(&self) -> bool
+        ensures { result ≡ bases_fit (types_of self.now.types.now) (types_of self.now.wanted.now) self.now.operands.now }
     {
-        self.operands.iter().zip(self.wanted).all(|(operand, cell)| type_at(self.types, *operand).base == cell.base)
+        self.operands.iter().zip(self.wanted).all(|(operand, cell)| {
+            let given = type_at(self.types, *operand);
+            given.base == cell.base
+        })
     }
 
     /// Whether each operand ends in the cell that is wanted of it.
-    pub fn cells_fit(self) -> bool
-        ensures { result ≡ cells_fit (types_of self.types.now) (types_of self.wanted.now) self.operands.now }
+    pub fn cells_fit(&self) -> bool
+        ensures { result ≡ cells_fit (types_of self.now.types.now) (types_of self.now.wanted.now) self.now.operands.now }
     {
-        self.operands.iter().zip(self.wanted).all(|(operand, cell)| type_at(self.types, *operand).shape.ends_in(cell.shape))
+        self.operands.iter().zip(self.wanted).all(|(operand, cell)| {
+            let given = type_at(self.types, *operand);
+            given.shape.ends_in(cell.shape)
+        })
     }
 
     /// The principal frame of the operands, if their frames agree.
-    pub fn frame(self) -> Option<Shape>
-        ensures { Joined (frames (types_of self.types.now) (types_of self.wanted.now) self.operands.now) result }
+    pub fn frame(&self) -> Option<Shape>
+        ensures { Joined (frames (types_of self.now.types.now) (types_of self.now.wanted.now) self.now.operands.now) result }
     {
         let mut principal = Shape::SCALAR;
         for (operand, cell) in self.operands.iter().zip(self.wanted) {

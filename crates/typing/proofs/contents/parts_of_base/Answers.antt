@@ -1,18 +1,13 @@
--- One operand more, or the first of another base type.
-use Rattle.std.proofs.Common.{true, false, sym, ap, ◌∙◌, arith}
-use Rattle.std.proofs.lemmas.List.{drop_all}
-use Rattle.remora.specs.Questions.{same_base}
+-- All operands are tested.
+use Rattle.std.proofs.Common.{eqb, ◌∙◌, rules, tests}
+use Rattle.std.proofs.lemmas.Iterator.{YieldsList-from_slice}
+use Rattle.std.proofs.lemmas.Iterator.Search.{all_from_yields_List}
+use Rattle.remora.specs.Questions.{type_at}
 use Rattle.typing.specs.Typings.{types_of}
-use Rattle.typing.proofs.Asking.{base_step}
+use Rattle.typing.proofs.Asking.{same_base_all}
 use Rattle.typing.proofs.contents.parts_of_base.Goals as goal
 
-pub returns-then-not-has_base : goal.returns-then-not-has_base
-returns-then-not-has_base c =
-    sym (c.loop-operand.invariant ∙ base_step c.args.types.now c.args.base c.args.operands.now c.loop-operand.operand-index c.type_at-given.result c.has_base.result false (omega arith) c.type_at-given.ensures c.has_base.ensures c.if-not-has_base.true)
-
-pub loop-operand-preserved : goal.loop-operand-preserved
-loop-operand-preserved c =
-    c.loop-operand.invariant ∙ base_step c.args.types.now c.args.base c.args.operands.now c.loop-operand.operand-index c.type_at-given.result c.has_base.result true (omega arith) c.type_at-given.ensures c.has_base.ensures c.if-not-has_base.false
-
 pub returns : goal.returns
-returns c = sym (c.loop-operand.invariant ∙ ap (same_base (types_of c.args.types.now) c.args.base) (drop_all c.loop-operand.operand-index c.args.operands.now (omega arith)))
+returns c =
+    let types = types_of c.args.types.now in
+    all_from_yields_List (λ o. eqb (type_at types o).base c.args.base) _ _ _ c.all.ensures.ran (YieldsList-from_slice c.args.operands.now cc) (λ x b q k. search (rules, tests)) ∙ same_base_all types c.args.base c.args.operands.now
