@@ -126,7 +126,7 @@ fn mean(codes: &[u32]) -> Result<u32, Fault>
 }
 
 /// What is told of a trace: how many samples it has, and the codes of the counts folded from them.
-#[derive(Clone, Copy)]
+#[derive(Clone, Copy, Debug, PartialEq, Eq)]
 pub struct Summary {
     pub samples: usize,
     pub sum: u32,

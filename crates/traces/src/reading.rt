@@ -1,9 +1,9 @@
 // Reading a trace from text: lines of words, each word a count in decimal.
-ghost use Rattle.std.specs.Prelude.{◌≡◌, [], ◌∷◌, MatchResult};
+ghost use Rattle.std.specs.Prelude.{◌≡◌, not, [], ◌∷◌, MatchResult};
 ghost use Rattle.std.specs.Option.{SomeIff};
 ghost use Rattle.std.specs.List.{AllByRecursion, find};
 ghost use Rattle.traces.specs.declared.reading.TraceError.TheVariants.{NoMemory};
-ghost use Rattle.traces.specs.Texts.{lines, words, words_in, pieces, parts, solid, comment, Count, Sound, code, codes as codes_of};
+ghost use Rattle.traces.specs.Texts.{lines, words, words_in, pieces, parts, indents, comment, Count, Sound, code, codes as codes_of};
 ghost use Rattle.traces.specs.Readings.{Told, Refuses};
 
 use std::alloc::{AllocError, AllocFailed, Global};
@@ -45,8 +45,8 @@ pub fn count_of(word: &str) -> Option<u32>
 }
 
 /// The first byte of a line that is no blank and no tab.
-fn first_solid(line: &[u8]) -> Option<u8>
-    ensures { result ≡ find solid line.now }
+fn first_after_indent(line: &[u8]) -> Option<u8>
+    ensures { result ≡ find (λ b. not (indents b)) line.now }
 {
     line.iter()
         .copied()
@@ -58,23 +58,18 @@ fn first_solid(line: &[u8]) -> Option<u8>
 fn is_comment(line: &[u8]) -> bool
     ensures { result ≡ comment line.now }
 {
-    first_solid(line) == Some(b'#')
+    first_after_indent(line) == Some(b'#')
 }
 
 /// Reads one piece of the line of this number onto the end of `codes`; an empty piece says nothing.
-fn read_word(
-    codes: &mut Vec<u32>,
-    heap: Global,
-    number: usize,
-    word: &str,
-) -> Result<(), TraceError>
+fn read_word(codes: &mut Vec<u32>, number: usize, word: &str) -> Result<(), TraceError>
     ensures { Told number (words_in (word.now ∷ [])) codes.old.items codes.new.items result }
 {
     if word.is_empty() {
         return Ok(());
     }
     let Some(code) = count_of(word) else {
-        let word = String::from_str(heap, word)?;
+        let word = String::from_str(*codes.allocator(), word)?;
         return Err(TraceError::NoCount { line: number, word });
     };
     codes.push(code)?;
@@ -82,33 +77,23 @@ fn read_word(
 }
 
 /// Reads the words of the line of this number onto the end of `codes`.
-fn read_words(
-    codes: &mut Vec<u32>,
-    heap: Global,
-    number: usize,
-    line: &str,
-) -> Result<(), TraceError>
+fn read_words(codes: &mut Vec<u32>, number: usize, line: &str) -> Result<(), TraceError>
     ensures { Told number (words_in (pieces parts line.now)) codes.old.items codes.new.items result }
 {
     for word in line.split([' ', '\t', '\r', ',']) {
-        read_word(codes, heap, number, word)?;
+        read_word(codes, number, word)?;
     }
     Ok(())
 }
 
 /// Reads the line of this number onto the end of `codes`; a comment says nothing.
-fn read_line(
-    codes: &mut Vec<u32>,
-    heap: Global,
-    number: usize,
-    line: &str,
-) -> Result<(), TraceError>
+fn read_line(codes: &mut Vec<u32>, number: usize, line: &str) -> Result<(), TraceError>
     ensures { Told number (words line.now) codes.old.items codes.new.items result }
 {
     if is_comment(line.as_bytes()) {
         Ok(())
     } else {
-        read_words(codes, heap, number, line)
+        read_words(codes, number, line)
     }
 }
 
@@ -120,7 +105,7 @@ pub fn read_trace(heap: Global, text: &str) -> Result<Vec<u32>, TraceError>
 {
     let mut codes = Vec::new(heap);
     for (i, line) in text.split('\n').enumerate() {
-        read_line(&mut codes, heap, i + 1, line)?;
+        read_line(&mut codes, i + 1, line)?;
     }
     Ok(codes)
 }
