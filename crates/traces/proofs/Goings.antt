@@ -1,8 +1,8 @@
 -- How far reading has come: through the words of a line, and through the lines of a text.
-use Rattle.std.proofs.Common.{◌≡◌, ℕ, ◌+◌, List, [], ◌∷◌, ◌++◌, map, length, string_bytes, sym, refl, ap, ◌∙◌, append_assoc, append-nil}
+use Rattle.std.proofs.Common.{◌≡◌, ℕ, ◌+◌, List, [], ◌∷◌, ◌++◌, map, length, string_bytes, sym, ap, ◌∙◌, append_assoc, append-nil}
 use Rattle.std.specs.List.{AllByRecursion}
 use Rattle.std.proofs.ByRecursion.{All-append, All-push}
-use Rattle.std.proofs.lemmas.List.{length_push}
+use Rattle.std.proofs.lemmas.List.{length_push, map-append}
 use Rattle.traces.specs.declared.reading.TraceError.{TraceError}
 use Rattle.traces.specs.declared.reading.TraceError.TheVariants.{NoCount, NoMemory}
 use Rattle.traces.specs.Readings.{Blames, Refuses}
@@ -15,11 +15,6 @@ pub record Gone (all left : List (List ℕ)) (start end : List ℕ) : Type 0 whe
   pub good : AllByRecursion Count seen
   pub said : end ≡ start ++ map code seen
 
--- The codes of words in a row.
-map-append : (xs ys : List (List ℕ)) → map code (xs ++ ys) ≡ map code xs ++ map code ys
-map-append [] ys = refl
-map-append (x ∷ xs) ys = ap (λ l. code x ∷ l) (map-append xs ys)
-
 module _ {all left : List (List ℕ)} {start mid : List ℕ} (old : Gone all left start mid) (ws rest : List (List ℕ)) (cut : left ≡ ws ++ rest) where
   -- Some words more were read.
   pub gone_more : (end : List ℕ) → AllByRecursion Count ws → end ≡ mid ++ map code ws → Gone all rest start end
@@ -27,7 +22,7 @@ module _ {all left : List (List ℕ)} {start mid : List ℕ} (old : Gone all lef
     seen = old.seen ++ ws;
     split = old.split ∙ ap (λ l. old.seen ++ l) cut ∙ sym (append_assoc old.seen ws rest);
     good = All-append Count old.seen ws old.good good;
-    said = said ∙ ap (λ l. l ++ map code ws) old.said ∙ append_assoc start (map code old.seen) (map code ws) ∙ ap (λ l. start ++ l) (sym (map-append old.seen ws));
+    said = said ∙ ap (λ l. l ++ map code ws) old.said ∙ append_assoc start (map code old.seen) (map code ws) ∙ ap (λ l. start ++ l) (sym (map-append code old.seen ws));
   }
 
   -- The first of them that is no count is the first of all.
