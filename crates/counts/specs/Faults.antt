@@ -1,5 +1,5 @@
 -- The causes of the faults, and their texts.
-use Rattle.std.specs.Prelude.{ℕ, List, codes}
+use Rattle.std.specs.Prelude.{ℕ, cond, List, codes, ◌==◌}
 use Rattle.counts.specs.declared.Fault.{Fault}
 use Rattle.counts.specs.declared.Fault.TheVariants.{Misused, DivisionByZero}
 
@@ -7,6 +7,10 @@ use Rattle.counts.specs.declared.Fault.TheVariants.{Misused, DivisionByZero}
 abbrev pub cause : Fault → ℕ
 cause Misused = 0
 cause DivisionByZero = 1
+
+-- The fault of a cause.
+abbrev pub fault_of : ℕ → Fault
+fault_of c = cond (c == 1) DivisionByZero Misused
 
 -- The text of a fault.
 abbrev pub fault_text : Fault → List ℕ

@@ -67,11 +67,11 @@ formed = record {
 -- Equal samples are those of equal atoms.
 apart : (a b : Value) → sampled a ≡ sampled b → a ≡ b
 apart (Count m) (Count n) e = ap Count (ap (λ s. s.code) e)
-apart (Count m) (Flag c) e = let z : ◌≡◌ {A = ℕ} 0 1 = ap (λ s. s.base) e in absurd (omega arith)
-apart (Flag b) (Count n) e = let z : ◌≡◌ {A = ℕ} 1 0 = ap (λ s. s.base) e in absurd (omega arith)
+apart (Count m) (Flag c) e = absurd (omega (arith, ap (λ s. s.base) e))
+apart (Flag b) (Count n) e = absurd (omega (arith, ap (λ s. s.base) e))
 apart (Flag true) (Flag true) e = refl
-apart (Flag true) (Flag false) e = let z : ◌≡◌ {A = ℕ} 1 0 = ap (λ s. s.code) e in absurd (omega arith)
-apart (Flag false) (Flag true) e = let z : ◌≡◌ {A = ℕ} 0 1 = ap (λ s. s.code) e in absurd (omega arith)
+apart (Flag true) (Flag false) e = absurd (omega (arith, ap (λ s. s.code) e))
+apart (Flag false) (Flag true) e = absurd (omega (arith, ap (λ s. s.code) e))
 apart (Flag false) (Flag false) e = refl
 
 -- The law of an algebra.

@@ -5,40 +5,19 @@ ghost use Rattle.std.specs.Prelude.{◌≡◌};
 ghost use Rattle.formulary.specs.Sources.{source_of, name_of};
 
 use std::process::ExitCode;
-use std::{env, fmt, fs, io};
+use std::{env, fs, io};
+use thiserror::Error;
 use traces::{Summary, TraceError, read_trace};
 
 /// Why there is no summary.
-#[derive(Drop)]
+#[derive(Debug, Drop, Error)]
 enum Failure {
     /// The text could not be read, or the summary not be written.
-    System(io::Error),
+    #[error(transparent)]
+    System(#[from] io::Error),
     /// The text is no trace.
-    NoTrace(TraceError),
-}
-
-/// What the system refuses is a failure.
-impl From<io::Error> for Failure {
-    fn from(error: io::Error) -> Failure {
-        Failure::System(error)
-    }
-}
-
-/// So is a text that is no trace.
-impl From<TraceError> for Failure {
-    fn from(error: TraceError) -> Failure {
-        Failure::NoTrace(error)
-    }
-}
-
-/// A failure is printed as the error that it holds.
-impl fmt::Display for Failure {
-    fn fmt<W: fmt::Write>(&self, f: &mut fmt::Formatter<W>) -> fmt::Result {
-        match self {
-            Failure::System(error) => write!(f, "{error}"),
-            Failure::NoTrace(error) => write!(f, "{error}"),
-        }
-    }
+    #[error(transparent)]
+    NoTrace(#[from] TraceError),
 }
 
 /// What a trace is read from.

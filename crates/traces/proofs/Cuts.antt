@@ -1,8 +1,10 @@
 -- The pieces of a text, as they are cut off one by one.
-use Rattle.std.proofs.Common.{◌≡◌, ℕ, ◌<◌, Bool, true, false, cond, eqb, List, [], ◌∷◌, ◌++◌, get_or, take, drop, Some, None, Option, sym, refl, ap, ◌∙◌, subst, arith, MatchOption}
+use Rattle.std.proofs.Common.{◌≡◌, ℕ, ◌<◌, Bool, true, false, cond, eqb, List, [], ◌∷◌, ◌++◌, get_or, take, drop, Some, None, Option, sym, refl, ap, ◌∙◌, subst, arith, MatchOption, Bor}
 use Rattle.std.specs.Char.{char_set_contains}
 use Rattle.std.specs.Str.Pattern.{FindsBy, FindsChar, IsSplitAtFirstMatch, HasCharAt}
 use Rattle.std.specs.Str.{NoCharPasses}
+use Rattle.std.specs.Str.Iter.{split_text, split_has_more, split_pattern, split_steps}
+use Rattle.std.specs.declared.str.Split.{Split}
 use Rattle.std.specs.List.{AllByRecursion}
 use Rattle.std.proofs.lemmas.List.Elements.{filter-append}
 use Rattle.std.proofs.ByRecursion.{All-from_get_or}
@@ -76,17 +78,38 @@ ends_plain c e = grind (arith, nat_tests)
 abbrev FindsAmong : List ℕ → List ℕ → Option (ℕ × ℕ) → Type 0
 FindsAmong p w o = (k : ℕ → Bool) → ((c : ℕ) → char_set_contains p c ≡ k c) → FindsBy k w o
 
--- A split at the characters that part words gives a piece, and the words of the others are left.
-pub next_words : (p : List ℕ) → ((c : ℕ) → char_set_contains p c ≡ parts c) → (w x rest : List ℕ) (before live : Bool) → true ≡ before → IsSplitAtFirstMatch (FindsAmong p) w x live rest → words_in (remaining parts before w) ≡ words_in (x ∷ []) ++ words_in (remaining parts live rest)
-next_words p tests w x rest before live e h =
-    ap words_in (next_left parts parts_plain (FindsAmong p) (λ v o f. f parts tests) w x rest before live e h)
-    ∙ filter-append filled (x ∷ []) (remaining parts live rest)
+-- A list of characters as a pattern has the tests that another has.
+abbrev KeepsTests : List ℕ → List ℕ → Type 0
+KeepsTests p q = (k : ℕ → Bool) → ((c : ℕ) → char_set_contains p c ≡ k c) → (c : ℕ) → char_set_contains q c ≡ k c
+
+-- A split at the characters that part words has not given these words yet.
+abbrev pub words_left : Split (List ℕ) → List (List ℕ)
+words_left s = words_in (remaining parts (split_has_more s) (split_text s))
+
+-- A split is at the characters that part words.
+abbrev pub AtParts : Split (List ℕ) → Type 0
+AtParts s = (c : ℕ) → char_set_contains (split_pattern s) c ≡ parts c
+
+-- Such a split gives a piece, and the words of the others are left.
+pub next_words : (s t : Split (List ℕ)) (x : Bor (List ℕ)) → AtParts s → split_steps FindsAmong KeepsTests s (Some x) t → (words_left s ≡ words_in (x.now ∷ []) ++ words_left t) × AtParts t
+next_words s t x tests h = (
+  ap words_in (next_left parts parts_plain (FindsAmong (split_pattern s)) (λ v o f. f parts tests) (split_text s) x.now (split_text t) (split_has_more s) (split_has_more t) h.0 h.1.1)
+      ∙ filter-append filled (x.now ∷ []) (remaining parts (split_has_more t) (split_text t)),
+  h.1.0 parts tests,
+)
 
 -- What finds a newline finds what ends a line.
 finds_end : (c : ℕ) → c ≡ 10 → (w : List ℕ) (o : Option (ℕ × ℕ)) → FindsChar c w o → FindsBy ends w o
 finds_end c e w None f = subst (λ d. NoCharPasses (λ b. eqb b d) w) e f
 finds_end c e w (Some q) f = (subst (λ d. NoCharPasses (λ b. eqb b d) (take q.0 w)) e f.0, (10, refl, subst (λ d. HasCharAt d w q.0 q.1) e f.1))
 
--- A split at newlines gives a line, and the others are left.
-pub next_line : (c : ℕ) → c ≡ 10 → (w x rest : List ℕ) (before live : Bool) → true ≡ before → IsSplitAtFirstMatch (FindsChar c) w x live rest → remaining ends before w ≡ x ∷ remaining ends live rest
-next_line c e = next_left ends ends_plain (FindsChar c) (finds_end c e)
+-- A split at newlines has not given these lines yet.
+abbrev pub lines_left : Split ℕ → List (List ℕ)
+lines_left s = remaining ends (split_has_more s) (split_text s)
+
+-- Such a split gives a line, and the others are left.
+pub next_line : (s t : Split ℕ) (x : Bor (List ℕ)) → split_pattern s ≡ 10 → split_steps FindsChar (λ c d. d ≡ c) s (Some x) t → (lines_left s ≡ x.now ∷ lines_left t) × (split_pattern t ≡ 10)
+next_line s t x e h = (
+  next_left ends ends_plain (FindsChar (split_pattern s)) (finds_end (split_pattern s) e) (split_text s) x.now (split_text t) (split_has_more s) (split_has_more t) h.0 h.1.1,
+  h.1.0 ∙ e,
+)

@@ -1,8 +1,8 @@
 -- How far reading has come: through the words of a line, and through the lines of a text.
-use Rattle.std.proofs.Common.{◌≡◌, ℕ, ◌+◌, List, [], ◌∷◌, ◌++◌, map, length, string_bytes, sym, refl, ap, ◌∙◌, subst, append_assoc, append-nil}
+use Rattle.std.proofs.Common.{◌≡◌, ℕ, ◌+◌, List, [], ◌∷◌, ◌++◌, map, length, string_bytes, sym, ap, ◌∙◌, append_assoc, append-nil}
 use Rattle.std.specs.List.{AllByRecursion}
 use Rattle.std.proofs.ByRecursion.{All-append, All-push}
-use Rattle.std.proofs.lemmas.List.{length_push}
+use Rattle.std.proofs.lemmas.List.{length_push, map-append}
 use Rattle.traces.specs.declared.reading.TraceError.{TraceError}
 use Rattle.traces.specs.declared.reading.TraceError.TheVariants.{NoCount, NoMemory}
 use Rattle.traces.specs.Readings.{Blames, Refuses}
@@ -15,15 +15,6 @@ pub record Gone (all left : List (List ℕ)) (start end : List ℕ) : Type 0 whe
   pub good : AllByRecursion Count seen
   pub said : end ≡ start ++ map code seen
 
--- The codes of words in a row.
-map-append : (xs ys : List (List ℕ)) → map code (xs ++ ys) ≡ map code xs ++ map code ys
-map-append [] ys = refl
-map-append (x ∷ xs) ys = ap (λ l. code x ∷ l) (map-append xs ys)
-
--- Nothing was read yet.
-pub gone_none : (all : List (List ℕ)) (start : List ℕ) → Gone all all start start
-gone_none all start = record { seen = []; split = refl; good = tt; said = sym (append-nil start) }
-
 module _ {all left : List (List ℕ)} {start mid : List ℕ} (old : Gone all left start mid) (ws rest : List (List ℕ)) (cut : left ≡ ws ++ rest) where
   -- Some words more were read.
   pub gone_more : (end : List ℕ) → AllByRecursion Count ws → end ≡ mid ++ map code ws → Gone all rest start end
@@ -31,7 +22,7 @@ module _ {all left : List (List ℕ)} {start mid : List ℕ} (old : Gone all lef
     seen = old.seen ++ ws;
     split = old.split ∙ ap (λ l. old.seen ++ l) cut ∙ sym (append_assoc old.seen ws rest);
     good = All-append Count old.seen ws old.good good;
-    said = said ∙ ap (λ l. l ++ map code ws) old.said ∙ append_assoc start (map code old.seen) (map code ws) ∙ ap (λ l. start ++ l) (sym (map-append old.seen ws));
+    said = said ∙ ap (λ l. l ++ map code ws) old.said ∙ append_assoc start (map code old.seen) (map code ws) ∙ ap (λ l. start ++ l) (sym (map-append code old.seen ws));
   }
 
   -- The first of them that is no count is the first of all.
@@ -46,12 +37,6 @@ module _ {all left : List (List ℕ)} {start mid : List ℕ} (old : Gone all lef
         bad.4,
       )
 
--- Nothing is left.
-pub gone_all : {all : List (List ℕ)} {start end : List ℕ} → Gone all [] start end → AllByRecursion Count all × (end ≡ start ++ map code all)
-gone_all {all} {start} {end} old =
-    let same : old.seen ≡ all = sym (old.split ∙ append-nil old.seen) in
-    (subst (AllByRecursion Count) same old.good, old.said ∙ ap (λ l. start ++ map code l) same)
-
 -- Of these lines so many were read, and the others are left.
 pub record Through (all left : List (List ℕ)) (number : ℕ) (end : List ℕ) : Type 0 where
   pub seen : List (List ℕ)
@@ -65,10 +50,6 @@ codes_push : (ls : List (List ℕ)) (l : List ℕ) → codes (ls ++ (l ∷ [])) 
 codes_push [] l = append-nil (map code (words l))
 codes_push (k ∷ ls) l = ap (λ r. map code (words k) ++ r) (codes_push ls l) ∙ sym (append_assoc (map code (words k)) (codes ls) (map code (words l)))
 
--- No line was read yet.
-pub through_none : (all : List (List ℕ)) (end : List ℕ) → end ≡ [] → Through all all 0 end
-through_none all end e = record { seen = []; split = refl; good = tt; said = e; count = refl }
-
 module _ {all left : List (List ℕ)} {number : ℕ} {mid : List ℕ} (old : Through all left number mid) (line : List ℕ) (rest : List (List ℕ)) (cut : left ≡ line ∷ rest) where
   -- One line more was read.
   pub through_more : (end : List ℕ) → Sound line → end ≡ mid ++ map code (words line) → Through all rest (number + 1) end
@@ -79,12 +60,6 @@ module _ {all left : List (List ℕ)} {number : ℕ} {mid : List ℕ} (old : Thr
     said = said ∙ ap (λ l. l ++ map code (words line)) old.said ∙ sym (codes_push old.seen line);
     count = ap (λ n. n + 1) old.count ∙ sym (length_push old.seen line);
   }
-
--- No line is left.
-pub through_all : {all : List (List ℕ)} {number : ℕ} {end : List ℕ} → Through all [] number end → AllByRecursion Sound all × (end ≡ codes all)
-through_all {all} old =
-    let same : old.seen ≡ all = sym (old.split ∙ append-nil old.seen) in
-    (subst (AllByRecursion Sound) same old.good, old.said ∙ ap codes same)
 
 -- The error of some words is that of all.
 pub blamed : {all left : List (List ℕ)} {start mid : List ℕ} → Gone all left start mid → (ws rest : List (List ℕ)) → left ≡ ws ++ rest → (number : ℕ) (e : TraceError) → Blames e number ws → Blames e number all

@@ -1,5 +1,4 @@
 -- The lemmas of this crate.
-mod Steps
 mod Comments
 mod Cuts
 mod Goings

@@ -1,12 +1,15 @@
 -- The figures of a trace, by recursion on the list of its codes.
 use Rattle.std.specs.Prelude.{ℕ, ◌%◌, ◌^◌, Bool, false, cond, ◌&&◌, List, [], ◌∷◌, length, Some, None, Ok, Err, fold, Option, Result, ◌==◌}
 use Rattle.remora.specs.Algebras.{Applied, value, cause}
+use Rattle.counts.specs.declared.Fault.{Fault}
+use Rattle.counts.specs.declared.Fault.TheVariants.{Misused, DivisionByZero}
+use Rattle.counts.specs.Faults.{fault_of}
 use Rattle.counts.specs.Tables.{sum, product, quotient, less}
 
--- An application as the code of a count or a cause, 0 for a sample that is no count.
-abbrev pub counted : Applied → Result ℕ ℕ
-counted (value s) = cond (s.base == 0) (Ok s.code) (Err 0)
-counted (cause e) = Err e
+-- An application as the code of a count or a fault: a sample that is no count is a misuse.
+abbrev pub counted : Applied → Result ℕ Fault
+counted (value s) = cond (s.base == 0) (Ok s.code) (Err Misused)
+counted (cause e) = Err (fault_of e)
 
 -- A sample that is a flag and set.
 abbrev pub flagged : Applied → Bool
@@ -43,14 +46,14 @@ abbrev pub largest : List ℕ → Option ℕ
 largest [] = None
 largest (c ∷ codes) = Some (fold greater c codes)
 
--- The quotient of two counts, or cause 1 for a divisor 0.
-abbrev pub quotient_of : ℕ → ℕ → Result ℕ ℕ
-quotient_of a b = cond (b == 0) (Err 1) (Ok (quotient a b))
+-- The quotient of two counts, or a division by zero.
+abbrev pub quotient_of : ℕ → ℕ → Result ℕ Fault
+quotient_of a b = cond (b == 0) (Err DivisionByZero) (Ok (quotient a b))
 
 -- The number of samples as the code of a count, modulo 2^32.
 abbrev pub samples_count : List ℕ → ℕ
 samples_count codes = length codes % 2 ^ 32
 
--- The sum by the number of samples, or cause 1 where that number is 0.
-abbrev pub mean : List ℕ → Result ℕ ℕ
+-- The sum by the number of samples, or a division by zero where that number is 0.
+abbrev pub mean : List ℕ → Result ℕ Fault
 mean codes = quotient_of (total codes) (samples_count codes)

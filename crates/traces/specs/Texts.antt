@@ -32,10 +32,14 @@ parts b = char_set_contains (32 ∷ 9 ∷ 13 ∷ 44 ∷ []) b
 abbrev pub filled : List ℕ → Bool
 filled p = not (length p == 0)
 
+-- A byte indents a line: a blank or a tab.
+abbrev pub indents : ℕ → Bool
+indents b = char_set_contains (32 ∷ 9 ∷ []) b
+
 -- A line is a comment if its first byte that is no blank and no tab is `#`.
 abbrev pub comment : List ℕ → Bool
 comment [] = false
-comment (b ∷ bs) = cond (char_set_contains (32 ∷ 9 ∷ []) b) (comment bs) (b == 35)
+comment (b ∷ bs) = cond (indents b) (comment bs) (b == 35)
 
 -- The words among these pieces.
 abbrev pub words_in : List (List ℕ) → List (List ℕ)

@@ -1,14 +1,15 @@
 // The summary of a trace: each of its figures is folded by the operators of the algebra of counts.
 ghost use Rattle.std.specs.Prelude.{◌≡◌, ◌==◌};
 ghost use Rattle.remora.specs.Algebras.{applying};
-ghost use Rattle.algebra.specs.Promises.{samples, answered};
+ghost use Rattle.algebra.specs.Promises.{samples};
 ghost use Rattle.counts.specs.Tables.{counts as table, sum, less};
+ghost use Rattle.counts.specs.Operators.{number};
 ghost use Rattle.counts.specs.Denoted.{sampled};
 ghost use Rattle.traces.specs.Folds.{counted, flagged, total, total_squares, with_square, lesser, greater, smallest, largest, quotient_of, mean};
 ghost use Rattle.traces.specs.Summaries.{summary_of};
 
-use algebra::{Algebra, Operands, Signature};
-use counts::{ADD, Counts, LESS, MUL, QUO, Value};
+use algebra::{Algebra, Operands};
+use counts::{Counts, Fault, Operator, Value};
 
 /// The two counts of these codes, as operands.
 fn pair(a: u32, b: u32) -> Operands<Value>
@@ -17,46 +18,37 @@ fn pair(a: u32, b: u32) -> Operands<Value>
     Operands::Two(Value::Count(a), Value::Count(b))
 }
 
-/// The code of the count that was given, or the cause, 0 where a flag was given.
-fn count_in(given: Result<Value, u8>) -> Result<u32, u8>
-    ensures { result ≡ counted (answered sampled given) }
+/// The code of the count that an operator gives, or its fault; a flag is a misuse.
+#[tactic(auto, unfolding(remora::specs::Algebras::applied))]
+fn applied(op: Operator, operands: Operands<Value>) -> Result<u32, Fault>
+    ensures { result ≡ counted (applying table (number op) (samples sampled operands)) }
 {
-    match given {
-        Ok(Value::Count(code)) => Ok(code),
-        Ok(Value::Flag(_)) => Err(0),
-        Err(cause) => Err(cause),
+    match Counts::apply(u8::from(op), operands)? {
+        Value::Count(code) => Ok(code),
+        Value::Flag(_) => Err(Fault::Misused),
     }
 }
 
-/// Whether a flag was given that is set.
-fn flag_in(given: Result<Value, u8>) -> bool
-    ensures { result ≡ flagged (answered sampled given) }
+/// Whether an operator gives a flag that is set.
+#[tactic(auto, unfolding(remora::specs::Algebras::applied))]
+fn holds(op: Operator, operands: Operands<Value>) -> bool
+    ensures { result ≡ flagged (applying table (number op) (samples sampled operands)) }
 {
-    match given {
-        Ok(Value::Flag(flag)) => flag,
-        _ => false,
-    }
-}
-
-/// The code of the count that an operator gives, or its cause, 0 where it gives no count.
-fn applied(op: u8, operands: Operands<Value>) -> Result<u32, u8>
-    ensures { result ≡ counted (applying table op (samples sampled operands)) }
-{
-    count_in(Counts::apply(op, operands))
+    matches!(Counts::apply(u8::from(op), operands), Ok(Value::Flag(true)))
 }
 
 /// The sum of two counts.
 fn added(a: u32, b: u32) -> u32
     ensures { result ≡ sum a b }
 {
-    applied(ADD, pair(a, b)).unwrap()
+    applied(Operator::Add, pair(a, b)).unwrap()
 }
 
 /// A sum and the square of one more count.
 fn with_square(so_far: u32, count: u32) -> u32
     ensures { result ≡ with_square so_far count }
 {
-    let square = applied(MUL, pair(count, count)).unwrap();
+    let square = applied(Operator::Mul, pair(count, count)).unwrap();
     added(so_far, square)
 }
 
@@ -64,7 +56,7 @@ fn with_square(so_far: u32, count: u32) -> u32
 fn is_less(a: u32, b: u32) -> bool
     ensures { result ≡ (less a b == 1) }
 {
-    flag_in(Counts::apply(LESS, pair(a, b)))
+    holds(Operator::Less, pair(a, b))
 }
 
 /// The lesser of two counts, the first if they are equal.
@@ -81,91 +73,68 @@ fn greater(a: u32, b: u32) -> u32
     if is_less(a, b) { b } else { a }
 }
 
-/// The quotient of two counts, or cause 1 for a divisor 0.
-fn quotient(a: u32, b: u32) -> Result<u32, u8>
+/// The quotient of two counts, or a division by zero.
+fn quotient(a: u32, b: u32) -> Result<u32, Fault>
     ensures { result ≡ quotient_of a b }
 {
-    applied(QUO, pair(a, b))
+    applied(Operator::Quo, pair(a, b))
 }
 
 /// The unit of add, where each sum begins.
 fn nothing() -> u32
     ensures { result ≡ 0 }
 {
-    match Counts::signature(ADD) {
-        Some(
-            Signature {
-                unit: Some(code),
-                ..
-            },
-        ) => code as u32,
-        _ => unreachable(),
-    }
+    let add = Counts::signature(u8::from(Operator::Add));
+    add.and_then(|add| add.unit).unwrap() as u32
 }
 
 /// The sum of these counts.
 fn total(codes: &[u32]) -> u32
     ensures { result ≡ total codes.now }
 {
-    let mut sum = nothing();
-    for code in codes {
-        sum = added(sum, *code);
-    }
-    sum
+    codes.iter().fold(nothing(), |sum, code| added(sum, *code))
 }
 
 /// The sum of the squares of these counts.
 fn total_squares(codes: &[u32]) -> u32
     ensures { result ≡ total_squares codes.now }
 {
-    let mut sum = nothing();
-    for code in codes {
-        sum = with_square(sum, *code);
-    }
-    sum
+    codes
+        .iter()
+        .fold(nothing(), |sum, code| with_square(sum, *code))
 }
 
 /// The smallest of these counts, if there is one.
 fn smallest(codes: &[u32]) -> Option<u32>
     ensures { result ≡ smallest codes.now }
 {
-    let (first, rest) = codes.split_first()?;
-    let mut least = *first;
-    for code in rest {
-        least = lesser(least, *code);
-    }
-    Some(least)
+    codes.iter().copied().reduce(lesser)
 }
 
 /// The largest of these counts, if there is one.
 fn largest(codes: &[u32]) -> Option<u32>
     ensures { result ≡ largest codes.now }
 {
-    let (first, rest) = codes.split_first()?;
-    let mut most = *first;
-    for code in rest {
-        most = greater(most, *code);
-    }
-    Some(most)
+    codes.iter().copied().reduce(greater)
 }
 
-/// The sum of these counts by their number modulo 2^32, rounded to zero, or cause 1 where that number is 0.
-fn mean(codes: &[u32]) -> Result<u32, u8>
+/// The sum of these counts by their number modulo 2^32, rounded to zero, or a division by zero where that number is 0.
+fn mean(codes: &[u32]) -> Result<u32, Fault>
     ensures { result ≡ mean codes.now }
 {
     quotient(total(codes), (codes.len() % 4294967296) as u32)
 }
 
 /// What is told of a trace: how many samples it has, and the codes of the counts folded from them.
-#[derive(Clone, Copy)]
+#[derive(Clone, Copy, Debug, PartialEq, Eq)]
 pub struct Summary {
     pub samples: usize,
     pub sum: u32,
     pub squares: u32,
     pub smallest: Option<u32>,
     pub largest: Option<u32>,
-    /// The mean, or the cause for which there is none.
-    pub mean: Result<u32, u8>,
+    /// The mean, or the fault for which there is none.
+    pub mean: Result<u32, Fault>,
 }
 
 impl Summary {

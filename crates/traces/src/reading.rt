@@ -1,9 +1,9 @@
 // Reading a trace from text: lines of words, each word a count in decimal.
-ghost use Rattle.std.specs.Prelude.{◌≡◌, [], ◌∷◌, MatchResult};
+ghost use Rattle.std.specs.Prelude.{◌≡◌, not, [], ◌∷◌, MatchResult};
 ghost use Rattle.std.specs.Option.{SomeIff};
-ghost use Rattle.std.specs.List.{AllByRecursion};
+ghost use Rattle.std.specs.List.{AllByRecursion, find};
 ghost use Rattle.traces.specs.declared.reading.TraceError.TheVariants.{NoMemory};
-ghost use Rattle.traces.specs.Texts.{lines, words, words_in, pieces, parts, comment, Count, Sound, code, codes as codes_of};
+ghost use Rattle.traces.specs.Texts.{lines, words, words_in, pieces, parts, indents, comment, Count, Sound, code, codes as codes_of};
 ghost use Rattle.traces.specs.Readings.{Told, Refuses};
 
 use std::alloc::{AllocError, AllocFailed, Global};
@@ -16,6 +16,8 @@ pub enum TraceError {
     /// Memory was wanting.
     NoMemory,
 }
+
+// The two conversions are written by hand, since a clause names the error that `?` makes.
 
 /// An allocation that fails is want of memory.
 impl From<AllocError> for TraceError {
@@ -39,38 +41,35 @@ impl<T: Drop> From<AllocFailed<T>> for TraceError {
 pub fn count_of(word: &str) -> Option<u32>
     ensures { SomeIff result (Count word.now) (code word.now) }
 {
-    match word.parse::<i32>() {
-        Ok(number) => Some(number.cast_unsigned()),
-        Err(_) => None,
-    }
+    word.parse::<i32>().ok().map(i32::cast_unsigned)
+}
+
+/// The first byte of a line that is no blank and no tab.
+fn first_after_indent(line: &[u8]) -> Option<u8>
+    ensures { result ≡ find (λ b. not (indents b)) line.now }
+{
+    line.iter()
+        .copied()
+        .find(|byte| !matches!(*byte, b' ' | b'\t'))
 }
 
 /// Whether a line of these bytes is a comment: its first byte that is no blank and no tab is `#`.
+#[tactic(auto, using(crate::proofs::Comments::comment_found))]
 fn is_comment(line: &[u8]) -> bool
     ensures { result ≡ comment line.now }
 {
-    for byte in line {
-        if *byte != b' ' && *byte != b'\t' {
-            return *byte == b'#';
-        }
-    }
-    false
+    first_after_indent(line) == Some(b'#')
 }
 
 /// Reads one piece of the line of this number onto the end of `codes`; an empty piece says nothing.
-fn read_word(
-    codes: &mut Vec<u32>,
-    heap: Global,
-    number: usize,
-    word: &str,
-) -> Result<(), TraceError>
+fn read_word(codes: &mut Vec<u32>, number: usize, word: &str) -> Result<(), TraceError>
     ensures { Told number (words_in (word.now ∷ [])) codes.old.items codes.new.items result }
 {
     if word.is_empty() {
         return Ok(());
     }
     let Some(code) = count_of(word) else {
-        let word = String::from_str(heap, word)?;
+        let word = String::from_str(*codes.allocator(), word)?;
         return Err(TraceError::NoCount { line: number, word });
     };
     codes.push(code)?;
@@ -78,33 +77,23 @@ fn read_word(
 }
 
 /// Reads the words of the line of this number onto the end of `codes`.
-fn read_words(
-    codes: &mut Vec<u32>,
-    heap: Global,
-    number: usize,
-    line: &str,
-) -> Result<(), TraceError>
+fn read_words(codes: &mut Vec<u32>, number: usize, line: &str) -> Result<(), TraceError>
     ensures { Told number (words_in (pieces parts line.now)) codes.old.items codes.new.items result }
 {
     for word in line.split([' ', '\t', '\r', ',']) {
-        read_word(codes, heap, number, word)?;
+        read_word(codes, number, word)?;
     }
     Ok(())
 }
 
 /// Reads the line of this number onto the end of `codes`; a comment says nothing.
-fn read_line(
-    codes: &mut Vec<u32>,
-    heap: Global,
-    number: usize,
-    line: &str,
-) -> Result<(), TraceError>
+fn read_line(codes: &mut Vec<u32>, number: usize, line: &str) -> Result<(), TraceError>
     ensures { Told number (words line.now) codes.old.items codes.new.items result }
 {
     if is_comment(line.as_bytes()) {
         Ok(())
     } else {
-        read_words(codes, heap, number, line)
+        read_words(codes, number, line)
     }
 }
 
@@ -115,10 +104,8 @@ pub fn read_trace(heap: Global, text: &str) -> Result<Vec<u32>, TraceError>
     ensures { MatchResult result (λ v. AllByRecursion Sound (lines text.now) × (v.items ≡ codes_of (lines text.now))) (λ e. Refuses (lines text.now) e) }
 {
     let mut codes = Vec::new(heap);
-    let mut number = 0;
-    for line in text.split('\n') {
-        number += 1;
-        read_line(&mut codes, heap, number, line)?;
+    for (i, line) in text.split('\n').enumerate() {
+        read_line(&mut codes, i + 1, line)?;
     }
     Ok(codes)
 }

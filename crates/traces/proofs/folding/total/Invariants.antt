@@ -1,7 +1,0 @@
--- The sum is that of the counts gone through.
-use Rattle.std.proofs.Common.{◌≡◌, take}
-use Rattle.traces.specs.Folds.{total}
-use Rattle.traces.proofs.folding.total.Given as goal
-
-abbrev pub invariant-loop-code : goal.invariant-loop-code
-invariant-loop-code l = l.sum ≡ total (take l.code-index l.codes)
