@@ -30,7 +30,7 @@ front_length xs ys h e k = length-append ys _ ∙ (λ i. e i + length-drop (h - 
 
 module _ (m : Meaning) (es : List Entry) (d : Draft) (all : List Row) (f : Forecast) (long : length all ≡ length d.rows) where
   abbrev ps : List theory.ArrayType
-  ps = types_of (take d.count d.all)
+  ps = types_of (take d.parameters.count d.parameters.all)
 
   abbrev first : List Row
   first = take d.height d.rows
@@ -50,7 +50,7 @@ module _ (m : Meaning) (es : List Entry) (d : Draft) (all : List Row) (f : Forec
     limits = λ i. limited (1 + c.steps i) (c.room i) (1 + c.depth i)
 
     -- the forecasts are beyond the limits
-    pub draft_beyond : (result : ArrayType) (x : Refusal) → LimitedBy d.all d.count result f (Err x) → DraftChecked m es d (Err x) (with_rows d all)
+    pub draft_beyond : (result : ArrayType) (x : Refusal) → LimitedBy d.parameters result f (Err x) → DraftChecked m es d (Err x) (with_rows d all)
     draft_beyond result x l = record {
       told = ap (refusal_of (known_in es) ps) c.judged ∙ ap (λ (b : Bool). cond b None (Some (refused 14 None))) (sym limits ∙ l.0) ∙ ap Some (sym l.1);
       same = refl;
@@ -59,7 +59,7 @@ module _ (m : Meaning) (es : List Entry) (d : Draft) (all : List Row) (f : Forec
     }
 
     -- the draft is accepted
-    pub draft_accepted : (e : Entry) (none : Row) → 0 < d.height → d.height ≤ length d.rows → LimitedBy d.all d.count (get_or all (d.height - 1) none).found.array f (Ok e) → DraftChecked m es d (Ok e) (with_rows d all)
+    pub draft_accepted : (e : Entry) (none : Row) → 0 < d.height → d.height ≤ length d.rows → LimitedBy d.parameters (get_or all (d.height - 1) none).found.array f (Ok e) → DraftChecked m es d (Ok e) (with_rows d all)
     draft_accepted e none some few l =
         let n : ℕ = d.height - 1 in
         let tall : length (take d.height all) ≡ n + 1 = length-take-le d.height all (omega arith) ∙ omega arith in
@@ -83,7 +83,7 @@ module _ (m : Meaning) (es : List Entry) (d : Draft) (all : List Row) (f : Forec
 
 -- what the code's own lists say: the first lines of the draft, and its parameters
 module _ (m : Meaning) (es : List Entry) (d : Draft) (before after : List Row) (own : List ArrayType) (f : Forecast)
-    (before-is : before ≡ take d.height d.rows) (own_is : own ≡ take d.count d.all) (few : d.height ≤ length d.rows) where
+    (before-is : before ≡ take d.height d.rows) (own_is : own ≡ take d.parameters.count d.parameters.all) (few : d.height ≤ length d.rows) where
   abbrev all : List Row
   all = put_mid 0 (d.height - 0) d.rows after
 
@@ -93,10 +93,10 @@ module _ (m : Meaning) (es : List Entry) (d : Draft) (before after : List Row) (
 
   -- the check in the draft's own terms
   moved : (r : Result (Unit {0}) Refusal) → givens after ≡ givens before → CheckedAs m es (types_of own) d.codes before r after f
-      → CheckedAs m es (types_of (take d.count d.all)) d.codes (take d.height d.rows) r (take d.height all) f
+      → CheckedAs m es (types_of (take d.parameters.count d.parameters.all)) d.codes (take d.height d.rows) r (take d.height all) f
   moved r e c =
-      subst (λ (rs : List Row). CheckedAs m es (types_of (take d.count d.all)) d.codes (take d.height d.rows) r rs f) (sym (front_written d.rows after d.height (tall e)))
-      (subst (λ (rs : List Row). CheckedAs m es (types_of (take d.count d.all)) d.codes rs r after f) before-is
+      subst (λ (rs : List Row). CheckedAs m es (types_of (take d.parameters.count d.parameters.all)) d.codes (take d.height d.rows) r rs f) (sym (front_written d.rows after d.height (tall e)))
+      (subst (λ (rs : List Row). CheckedAs m es (types_of (take d.parameters.count d.parameters.all)) d.codes rs r after f) before-is
       (subst (λ (ts : List ArrayType). CheckedAs m es (types_of ts) d.codes before r after f) own_is c))
 
   -- a line was refused
@@ -107,7 +107,7 @@ module _ (m : Meaning) (es : List Entry) (d : Draft) (before after : List Row) (
 
   -- all lines were typed
   pub check_done : (u : Unit {0}) (none : Row) (r : Result Entry Refusal) → 0 < d.height → CheckedAs m es (types_of own) d.codes before (Ok u) after f
-      → LimitedBy d.all d.count (get_or all (d.height - 1) none).found.array f r → DraftChecked m es d r (with_rows d all)
+      → LimitedBy d.parameters (get_or all (d.height - 1) none).found.array f r → DraftChecked m es d r (with_rows d all)
   check_done u none (Ok e) some c l =
       draft_accepted m es d all f (front_length d.rows after d.height (tall c.given) few) (moved (Ok u) c.given c) e none some few l
   check_done u none (Err x) some c l =

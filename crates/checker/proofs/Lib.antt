@@ -3,5 +3,4 @@ pub mod Pasting
 pub mod Viewing
 pub mod Sounding
 pub mod Judging
-pub mod Opening
 pub mod Drafting

@@ -3,8 +3,8 @@ use Rattle.std.proofs.Common.{◌≡◌, ℕ, ◌+◌, ◌<◌, ◌≤◌, true,
 use Rattle.std.proofs.lemmas.List.{take_more_set}
 use Rattle.std.proofs.lemmas.Bool.{and_parts, and_from, leb-true, le-leb, eqb-true, eq-eqb}
 use Rattle.lines.specs.declared.fields.Fields.{Fields}
-use Rattle.shapes.specs.declared.ArrayType.{ArrayType}
 use Rattle.typing.specs.declared.found.Entry.{Entry}
+use Rattle.typing.specs.declared.parameters.Parameters.{Parameters}
 use Rattle.checker.specs.declared.rows.Row.{Row}
 use Rattle.checker.specs.declared.drafts.Draft.{Draft}
 use Rattle.checker.specs.declared.tables.Extent.{Extent}
@@ -111,9 +111,9 @@ sound_of d t a b h w l =
 -- ---- the draft
 
 -- a draft without lines is sound
-pub begun_sound : (d : Draft) (t : Tables) (serial : ℕ) (all : List ArrayType) (count : ℕ) → sound d t ≡ true → sound (begun d serial all count) t ≡ true
-begun_sound d t serial all count s = let p = parts d t s in let l = p.long in
-    sound_of (begun d serial all count) t refl p.are_tables_sound (omega arith) (omega arith)
+pub begun_sound : (d : Draft) (t : Tables) (serial : ℕ) (ps : Parameters) → sound d t ≡ true → sound (begun d serial ps) t ≡ true
+begun_sound d t serial ps s = let p = parts d t s in let l = p.long in
+    sound_of (begun d serial ps) t refl p.are_tables_sound (omega arith) (omega arith)
     (record { draft_rows = l.draft_rows; draft_codes = l.draft_codes; entries = l.entries; extents = l.extents; rows = l.rows; codes = l.codes })
 
 pub dropped_sound : (d : Draft) (t : Tables) → sound d t ≡ true → sound (dropped d) t ≡ true

@@ -4,6 +4,7 @@ use Rattle.lines.specs.declared.fields.Fields.{Fields}
 use Rattle.lines.specs.declared.given.Kind.TheVariants.{Literal}
 use Rattle.shapes.specs.declared.ArrayType.{ArrayType}
 use Rattle.shapes.specs.declared.Shape.{Shape}
+use Rattle.typing.specs.declared.parameters.Parameters.{Parameters}
 use Rattle.typing.specs.declared.found.Entry.{Entry}
 use Rattle.typing.specs.declared.found.Typed.{Typed}
 use Rattle.checker.specs.declared.rows.Row.{Row}
@@ -20,9 +21,13 @@ pasted xs n ys = take n xs ++ (ys ++ drop (n + length ys) xs)
 abbrev pub nothing : ArrayType
 nothing = record { base = 0; shape = record { axes = replicate 4 0; rank = 1 } }
 
+-- No parameters.
+abbrev pub none : Parameters
+none = record { all = replicate 4 nothing; count = 0 }
+
 -- What stands where nothing was found.
 abbrev pub not_found : Typed
-not_found = record { array = nothing; cells = 0; items = 0; item = 0; repeats = replicate 4 0; sizes = replicate 4 0 }
+not_found = record { array = nothing; cells = 0; items = record { number = 0; atoms = 0 }; lifts = replicate 4 (record { repeats = 0; size = 0 }) }
 
 -- A line with these fields and its codes, which begin at this place.
 abbrev pub row_with : Fields → ℕ → ℕ → Row
@@ -34,11 +39,11 @@ blank = row_with (record { kind = Literal; base = 0; shape = record { axes = rep
 
 -- No draft was opened yet.
 abbrev pub no_draft : Draft
-no_draft = record { opened = false; serial = 0; all = replicate 4 nothing; count = 0; rows = replicate 64 blank; height = 0; codes = replicate 4096 0; width = 0 }
+no_draft = record { opened = false; serial = 0; parameters = none; rows = replicate 64 blank; height = 0; codes = replicate 4096 0; width = 0 }
 
 -- What stands where there is no formula.
 abbrev pub unknown : Entry
-unknown = record { all = replicate 4 nothing; count = 0; result = nothing; steps = 0; room = 0; depth = 0; withdrawn = false }
+unknown = record { parameters = none; result = nothing; steps = 0; room = 0; depth = 0; withdrawn = false }
 
 -- No formula was entered yet.
 abbrev pub no_tables : Tables
@@ -47,17 +52,17 @@ no_tables = record { entries = replicate 64 unknown; extents = replicate 64 (rec
 -- ---- the draft
 
 -- A draft that was opened.
-abbrev pub begun : Draft → ℕ → List ArrayType → ℕ → Draft
-begun d serial all count = record { opened = true; serial = serial; all = all; count = count; rows = d.rows; height = 0; codes = d.codes; width = 0 }
+abbrev pub begun : Draft → ℕ → Parameters → Draft
+begun d serial ps = record { opened = true; serial = serial; parameters = ps; rows = d.rows; height = 0; codes = d.codes; width = 0 }
 
 -- A draft with one more line.
 abbrev pub grown : Draft → Fields → List ℕ → Draft
 grown d f cs =
-    record { opened = d.opened; serial = d.serial; all = d.all; count = d.count; rows = slice_set d.rows d.height (row_with f d.width (length cs)); height = d.height + 1; codes = pasted d.codes d.width cs; width = d.width + length cs }
+    record { opened = d.opened; serial = d.serial; parameters = d.parameters; rows = slice_set d.rows d.height (row_with f d.width (length cs)); height = d.height + 1; codes = pasted d.codes d.width cs; width = d.width + length cs }
 
 -- No draft.
 abbrev pub dropped : Draft → Draft
-dropped d = record { opened = false; serial = d.serial; all = d.all; count = d.count; rows = d.rows; height = 0; codes = d.codes; width = 0 }
+dropped d = record { opened = false; serial = d.serial; parameters = d.parameters; rows = d.rows; height = 0; codes = d.codes; width = 0 }
 
 -- ---- the tables
 
@@ -80,11 +85,11 @@ no_shape = record { axes = []; rank = 0 }
 
 -- What a read past the end of the entries stands for.
 abbrev pub absent : Entry
-absent = record { all = []; count = 0; result = record { base = 0; shape = no_shape }; steps = 0; room = 0; depth = 0; withdrawn = false }
+absent = record { parameters = record { all = []; count = 0 }; result = record { base = 0; shape = no_shape }; steps = 0; room = 0; depth = 0; withdrawn = false }
 
 -- A formula with the mark of withdrawal.
 abbrev pub marked : Entry → Entry
-marked e = record { all = e.all; count = e.count; result = e.result; steps = e.steps; room = e.room; depth = e.depth; withdrawn = true }
+marked e = record { parameters = e.parameters; result = e.result; steps = e.steps; room = e.room; depth = e.depth; withdrawn = true }
 
 -- The tables with a formula withdrawn.
 abbrev pub withdrawn_at : Tables → ℕ → Tables

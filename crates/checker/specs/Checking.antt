@@ -10,6 +10,7 @@ use Rattle.remora.specs.Calls.{Answer, refused}
 use Rattle.lines.specs.declared.refusals.Refusal.{Refusal}
 use Rattle.lines.specs.Refusals.{answer_of}
 use Rattle.shapes.specs.declared.ArrayType.{ArrayType}
+use Rattle.typing.specs.declared.parameters.Parameters.{Parameters}
 use Rattle.typing.specs.declared.found.Entry.{Entry}
 use Rattle.typing.specs.Typings.{types_of, Refused}
 use Rattle.typing.specs.Plans.{entry_of, known_in, usable_in, AllAllowed, Found}
@@ -96,13 +97,13 @@ refusal_of E ps (refused_at q k) = Some (refused q (Some k))
 
 -- The draft with other lines in place of its own.
 abbrev pub with_rows : Draft → List Row → Draft
-with_rows d rs = record { opened = d.opened; serial = d.serial; all = d.all; count = d.count; rows = rs; height = d.height; codes = d.codes; width = d.width }
+with_rows d rs = record { opened = d.opened; serial = d.serial; parameters = d.parameters; rows = rs; height = d.height; codes = d.codes; width = d.width }
 
 -- The forecasts of a formula, by those of its lines, are within the limits; what is then known of the formula.
-abbrev pub LimitedBy : List ArrayType → ℕ → ArrayType → Forecast → Result Entry Refusal → Type 0
-LimitedBy all count result f (Ok e) =
-    (limited (1 + f.steps) (room_in f) (1 + f.depth) ≡ true) × (e ≡ record { all = all; count = count; result = result; steps = 1 + f.steps; room = room_in f; depth = 1 + f.depth; withdrawn = false })
-LimitedBy all count result f (Err x) = (limited (1 + f.steps) (room_in f) (1 + f.depth) ≡ false) × (answer_of x ≡ refused 14 None)
+abbrev pub LimitedBy : Parameters → ArrayType → Forecast → Result Entry Refusal → Type 0
+LimitedBy ps result f (Ok e) =
+    (limited (1 + f.steps) (room_in f) (1 + f.depth) ≡ true) × (e ≡ record { parameters = ps; result = result; steps = 1 + f.steps; room = room_in f; depth = 1 + f.depth; withdrawn = false })
+LimitedBy ps result f (Err x) = (limited (1 + f.steps) (room_in f) (1 + f.depth) ≡ false) × (answer_of x ≡ refused 14 None)
 
 -- What is known of a formula once its lines are checked, if the forecasts are within the limits.
 abbrev pub Limited : (ℕ → theory.Entry) → List theory.ArrayType → List theory.TypedLine → Result Entry Refusal → Type 0
@@ -112,14 +113,14 @@ Limited E ps rs (Err x) = (within_limits (entry_for E ps rs) ≡ false) × (answ
 -- A draft is checked: its lines stay as they were handed over; they are typed, with these plans, and this is known of the formula; or the refusal is the one for the verdict.
 pub record Accepted (m : Meaning) (es : List Entry) (d : Draft) (rows : List Row) (e : Entry) : Type 0 where
   pub typed : List theory.TypedLine
-  pub judged : verdict m es (types_of (take d.count d.all)) [] (lines_in d.codes (take d.height d.rows)) ≡ all_typed typed
+  pub judged : verdict m es (types_of (take d.parameters.count d.parameters.all)) [] (lines_in d.codes (take d.height d.rows)) ≡ all_typed typed
   pub planned : plans_in d.codes (take d.height rows) ≡ plans m (known_in es) [] 0 typed
-  pub limited : Limited (known_in es) (types_of (take d.count d.all)) typed (Ok e)
+  pub limited : Limited (known_in es) (types_of (take d.parameters.count d.parameters.all)) typed (Ok e)
 
 -- The check of a draft.
 abbrev pub DraftCheckedAs : Meaning → List Entry → Draft → Result Entry Refusal → List Row → Type 0
 DraftCheckedAs m es d (Ok e) rows = Accepted m es d rows e
-DraftCheckedAs m es d (Err x) rows = refusal_of (known_in es) (types_of (take d.count d.all)) (verdict m es (types_of (take d.count d.all)) [] (lines_in d.codes (take d.height d.rows))) ≡ Some (answer_of x)
+DraftCheckedAs m es d (Err x) rows = refusal_of (known_in es) (types_of (take d.parameters.count d.parameters.all)) (verdict m es (types_of (take d.parameters.count d.parameters.all)) [] (lines_in d.codes (take d.height d.rows))) ≡ Some (answer_of x)
 
 -- And nothing but what was found is changed.
 pub record DraftChecked (m : Meaning) (es : List Entry) (d : Draft) (r : Result Entry Refusal) (u : Draft) : Type 0 where

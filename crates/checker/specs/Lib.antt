@@ -4,4 +4,3 @@ pub mod Changes
 pub mod Sound
 pub mod Forecasting
 pub mod Checking
-pub mod Parameters

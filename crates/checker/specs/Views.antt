@@ -29,12 +29,12 @@ plans_in cs (r ∷ rs) = planned (line_in cs r.given) r.found r.offset ∷ plans
 
 -- The draft.
 abbrev pub draft_of : Draft → calls.Draft
-draft_of d = cond d.opened (calls.opened d.serial (types_of (take d.count d.all)) (lines_in d.codes (take d.height d.rows))) calls.shut
+draft_of d = cond d.opened (calls.opened d.serial (types_of (take d.parameters.count d.parameters.all)) (lines_in d.codes (take d.height d.rows))) calls.shut
 
 -- A formula with its lines and codes, of which these are its own.
 abbrev pub kept_with : Entry → List Row → List ℕ → calls.Kept
 kept_with e rs cs =
-    record { formula = record { parameters = types_of (take e.count e.all); lines = lines_in cs rs }; entry = entry_of e; plan = plans_in cs rs; withdrawn = e.withdrawn }
+    record { formula = record { parameters = types_of (take e.parameters.count e.parameters.all); lines = lines_in cs rs }; entry = entry_of e; plan = plans_in cs rs; withdrawn = e.withdrawn }
 
 -- The lines of a formula, out of all.
 abbrev pub rows_of : Extent → List Row → List Row

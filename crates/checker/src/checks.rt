@@ -11,7 +11,7 @@ use algebra::Algebra;
 use lines::Refusal;
 use remora::{STEPS, within_limits};
 use shapes::ArrayType;
-use typing::{Context, Entry, type_line};
+use typing::{Context, Entry, Parameters, type_line};
 
 /// Types a line in its context, and puts it at this place.
 fn type_row<A: Algebra>(
@@ -43,15 +43,15 @@ fn type_rows<'a, A: Algebra>(
     requires { length rows.old ≤ 64 }
     ensures { CheckedAs A.meaning formulas.now (types_of parameters.now) codes.now rows.old result rows.new forecast.new }
 {
+    // The types stand beside the lines too, since a context lends them as one slice, without a heap.
     let mut types = [ArrayType::NOTHING; 64];
     *forecast = Forecast::none();
-    for k in 0..rows.len() {
+    for (k, row) in rows.iter_mut().enumerate() {
         let context = Context {
             parameters,
-            types: &types[0..k],
+            types: &types[..k],
             formulas,
         };
-        let row = &mut rows[k];
         type_row::<A>(row, &context, codes, k as u32, forecast.place as u32)?;
         let callee = known(formulas, row.given.fields.function);
         forecast.add(Share::of(row, callee));
@@ -69,13 +69,12 @@ fn are_within_limits(steps: u128, room: u64, depth: u64) -> bool
 
 /// What is known of a formula with these parameters and this result, if its forecasts, by those of its lines, are within the limits.
 fn entry_within(
-    all: [ArrayType; 4],
-    count: u8,
+    parameters: Parameters,
     res: ArrayType,
     forecast: Forecast,
 ) -> Result<Entry, Refusal>
     requires { forecast.steps < 2 ^ 120 }
-    ensures { LimitedBy all count res forecast result }
+    ensures { LimitedBy parameters res forecast result }
 {
     let steps = 1 + forecast.steps;
     let room = forecast.room();
@@ -84,8 +83,7 @@ fn entry_within(
         return Err(Refusal::BeyondLimits);
     }
     Ok(Entry {
-        all,
-        count,
+        parameters,
         result: res,
         steps: steps as u32,
         room: room as u32,
@@ -101,17 +99,16 @@ impl Draft {
         ensures { DraftChecked A.meaning formulas.now self.old result self.new }
     {
         let height = self.height as usize;
-        let all = self.all;
-        let count = (self.count as usize).min(4);
+        let parameters = self.parameters;
         let mut forecast = Forecast::none();
         type_rows::<A>(
             &mut self.rows[0..height],
             &self.codes,
-            &all[0..count],
+            parameters.as_slice(),
             formulas,
             &mut forecast,
         )?;
         let result = self.rows[height - 1].found.array;
-        entry_within(all, self.count, result, forecast)
+        entry_within(parameters, result, forecast)
     }
 }

@@ -7,15 +7,14 @@ ghost use Rattle.checker.specs.Changes.{no_draft, begun, grown, dropped};
 use super::rows::{Given, Row};
 use lines::Fields;
 use shapes::ArrayType;
-use typing::Typed;
+use typing::{Parameters, Typed};
 
 /// A draft of at most 64 lines, if one is open.
 #[derive(Drop)]
 pub struct Draft {
     pub opened: bool,
     pub serial: u32,
-    pub all: [ArrayType; 4],
-    pub count: u8,
+    pub parameters: Parameters,
     pub rows: [Row; 64],
     pub height: u32,
     pub codes: [u64; 4096],
@@ -30,8 +29,7 @@ impl Draft {
         Draft {
             opened: false,
             serial: 0,
-            all: [ArrayType::NOTHING; 4],
-            count: 0,
+            parameters: Parameters::NONE,
             rows: [Row::BLANK; 64],
             height: 0,
             codes: [0; 4096],
@@ -48,10 +46,9 @@ impl Draft {
 
     /// The types of the parameters.
     pub fn parameters(&self) -> &[ArrayType]
-        ensures { result.now ≡ take self.now.count self.now.all }
+        ensures { result.now ≡ take self.now.parameters.count self.now.parameters.all }
     {
-        let count = (self.count as usize).min(4);
-        &self.all[0..count]
+        self.parameters.as_slice()
     }
 
     /// The lines.
@@ -59,7 +56,7 @@ impl Draft {
         requires { self.now.height ≤ 64 }
         ensures { result.now ≡ take self.now.height self.now.rows }
     {
-        &self.rows[0..self.height as usize]
+        &self.rows[..self.height as usize]
     }
 
     /// The codes of the lines.
@@ -67,17 +64,16 @@ impl Draft {
         requires { self.now.width ≤ 4096 }
         ensures { result.now ≡ take self.now.width self.now.codes }
     {
-        &self.codes[0..self.width as usize]
+        &self.codes[..self.width as usize]
     }
 
     /// Opens a draft with these parameters and no lines.
-    pub fn begin(&mut self, serial: u32, all: [ArrayType; 4], count: u8)
-        ensures { self.new ≡ begun self.old serial all count }
+    pub fn begin(&mut self, serial: u32, parameters: Parameters)
+        ensures { self.new ≡ begun self.old serial parameters }
     {
         self.opened = true;
         self.serial = serial;
-        self.all = all;
-        self.count = count;
+        self.parameters = parameters;
         self.height = 0;
         self.width = 0;
     }

@@ -29,12 +29,10 @@ pub struct Forecast {
 pub fn known(formulas: &[Entry], number: u32) -> Entry
     ensures { entry_of result ≡ known_in formulas.now number }
 {
-    let at = number as usize;
-    if at < formulas.len() {
-        formulas[at]
-    } else {
-        Entry::NONE
-    }
+    formulas
+        .get(number as usize)
+        .copied()
+        .unwrap_or(Entry::NONE)
 }
 
 impl Share {

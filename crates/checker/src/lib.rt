@@ -4,12 +4,10 @@
 mod checks;
 mod drafts;
 mod forecasts;
-mod parameters;
 mod rows;
 mod tables;
 
 pub use drafts::Draft;
 pub use forecasts::{Forecast, Share, known};
-pub use parameters::Parameters;
 pub use rows::{Given, Row, part};
 pub use tables::{Extent, Tables};

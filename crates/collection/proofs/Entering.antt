@@ -34,7 +34,7 @@ module _ (m : Meaning) (d : Draft) (t : Tables) (s : sound d t ≡ true) where
   es = take t.count t.entries
 
   abbrev ps : List theory.ArrayType
-  ps = types_of (take d.count d.all)
+  ps = types_of (take d.parameters.count d.parameters.all)
 
   abbrev ls : List theory.Line
   ls = lines_in d.codes (take d.height d.rows)

@@ -19,10 +19,10 @@ use Rattle.typing.specs.Typings.{types_of}
 use Rattle.typing.specs.Plans.{entry_of, mark_of}
 use Rattle.checker.specs.declared.drafts.Draft.{Draft}
 use Rattle.checker.specs.declared.tables.Tables.{Tables}
-use Rattle.checker.specs.declared.parameters.Parameters.{Parameters}
+use Rattle.typing.specs.declared.parameters.Parameters.{Parameters}
 use Rattle.checker.specs.Views.{draft_of, lines_in, kept_in, formulas_of}
 use Rattle.checker.specs.Changes.{begun, grown, dropped, withdrawn_at, marked, absent}
-use Rattle.checker.specs.Parameters.{KnownTypes}
+use Rattle.typing.specs.Parameters.{KnownTypes}
 use Rattle.checker.specs.Sound.{sound}
 use Rattle.checker.proofs.Viewing.{lines_length, lines_codes, lines_grown, kept_length, kept_entry, kept_mark, kept_withdrawn, kept_lines, kept_codes}
 use Rattle.checker.proofs.Sounding.{parts, Parts}
@@ -61,7 +61,7 @@ module _ (m : Meaning) (formed : Formed m) (n : ℕ) (d : Draft) (t : Tables) (p
   open_unknown h k = serves m formed (state_with n d t) (open' ps) (refused 2 None) (state_with n d t) (λ S. choose_yes (ltb n 1000000) _ _ h ∙ choose_no (leb (length ps) 4 && known_types m ps) _ _ k)
 
   -- a draft is opened
-  pub open_done : (p : Parameters) (e : Draft) → ltb n 1000000 ≡ true → KnownTypes m ps (Some p) → e ≡ begun d n p.all p.count → Serves m (state_with n d t) (open' ps) (number n) (state_with (n + 1) e t)
+  pub open_done : (p : Parameters) (e : Draft) → ltb n 1000000 ≡ true → KnownTypes m ps (Some p) → e ≡ begun d n p → Serves m (state_with n d t) (open' ps) (number n) (state_with (n + 1) e t)
   open_done p e h k is = serves m formed (state_with n d t) (open' ps) (number n) (state_with (n + 1) e t)
       (λ S. choose_yes (ltb n 1000000) _ _ h ∙ choose_yes (leb (length ps) 4 && known_types m ps) _ _ k.0
       ∙ (λ i. reply (number n) (record { serials = n + 1; draft = opened n (sym k.1 i) []; formulas = formulas_of t; run = calls.absent }) S)
@@ -71,15 +71,15 @@ module _ (m : Meaning) (formed : Formed m) (n : ℕ) (d : Draft) (t : Tables) (p
 
 -- a draft whose slip was shown is open
 pub slip_open : (d : Draft) (k : ℕ) → slip_fits (draft_of d) k ≡ true → d.opened ≡ true
-slip_open d k = go d.opened (types_of (take d.count d.all)) (lines_in d.codes (take d.height d.rows))
+slip_open d k = go d.opened (types_of (take d.parameters.count d.parameters.all)) (lines_in d.codes (take d.height d.rows))
   where
     go : (b : Bool) (ps : List theory.ArrayType) (ls : List theory.Line) → slip_fits (cond b (opened d.serial ps ls) calls.shut) k ≡ true → b ≡ true
     go true ps ls h = refl
     go false ps ls h = h
 
 -- and is this draft
-pub draft_open : (d : Draft) → d.opened ≡ true → draft_of d ≡ opened d.serial (types_of (take d.count d.all)) (lines_in d.codes (take d.height d.rows))
-draft_open d h = ap (λ (b : Bool). cond b (opened d.serial (types_of (take d.count d.all)) (lines_in d.codes (take d.height d.rows))) calls.shut) h
+pub draft_open : (d : Draft) → d.opened ≡ true → draft_of d ≡ opened d.serial (types_of (take d.parameters.count d.parameters.all)) (lines_in d.codes (take d.height d.rows))
+draft_open d h = ap (λ (b : Bool). cond b (opened d.serial (types_of (take d.parameters.count d.parameters.all)) (lines_in d.codes (take d.height d.rows))) calls.shut) h
 
 -- as many entries as extents
 pub taken : (d : Draft) (t : Tables) → Parts d t → length (take t.count t.entries) ≡ length (take t.count t.extents)
@@ -150,8 +150,8 @@ module _ (m : Meaning) (formed : Formed m) (n : ℕ) (d : Draft) (t : Tables) (k
         let lines_are : lines_in (grown d x l.codes).codes (take (d.height + 1) (grown d x l.codes).rows) ≡ old ++ l ∷ [] =
         lines_grown d.rows d.height d.codes d.width x l.codes (omega arith) (let g = p.codes in omega arith) p.draft.inside ∙ ap (λ (z : theory.Line). old ++ z ∷ []) o.1 in
         let after : draft_of (grown d x l.codes) ≡ calls.added (draft_of d) l =
-        ap (λ (b : Bool). cond b (opened d.serial (types_of (take d.count d.all)) (lines_in (grown d x l.codes).codes (take (d.height + 1) (grown d x l.codes).rows))) calls.shut) (slip_open d k h)
-        ∙ ap (opened d.serial (types_of (take d.count d.all))) lines_are ∙ sym (ap (λ (z : calls.Draft). calls.added z l) here) in
+        ap (λ (b : Bool). cond b (opened d.serial (types_of (take d.parameters.count d.parameters.all)) (lines_in (grown d x l.codes).codes (take (d.height + 1) (grown d x l.codes).rows))) calls.shut) (slip_open d k h)
+        ∙ ap (opened d.serial (types_of (take d.parameters.count d.parameters.all))) lines_are ∙ sym (ap (λ (z : calls.Draft). calls.added z l) here) in
         let height : length (draft_lines (draft_of d)) ≡ d.height = ap (λ (z : calls.Draft). length (draft_lines z)) here ∙ lines_length d.codes (take d.height d.rows) ∙ length-take-le d.height d.rows (omega arith) in
         serves m formed (state_with n d t) (line k l) (number d.height) (state_with n e t)
         (λ S. choose_yes (slip_fits (draft_of d) k) _ _ h ∙ choose_yes (has_space (state_with n d t) l) _ _ (space ∙ f) ∙ choose_yes (in_order m l) _ _ o.0

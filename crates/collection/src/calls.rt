@@ -9,10 +9,10 @@ use super::entries::entered;
 use super::holdings::Collection;
 use super::slips::Slip;
 use algebra::Algebra;
-use checker::{Draft, Parameters, Tables};
+use checker::{Draft, Tables};
 use lines::{Fields, Line, ParameterType, Refusal};
 use std::marker::PhantomData;
-use typing::Entry;
+use typing::{Entry, Parameters};
 
 impl<A: Algebra> Collection<A> {
     /// A new collection: no draft and no formula.
@@ -38,7 +38,7 @@ impl<A: Algebra> Collection<A> {
             return Err(Refusal::BadParameters);
         };
         let serial = self.serials;
-        self.draft.begin(serial, kept.all, kept.count);
+        self.draft.begin(serial, kept);
         self.serials = serial + 1;
         Ok(Slip { serial })
     }

@@ -271,6 +271,13 @@ mod tests {
     }
 
     #[test]
+    fn shapes_of_five_axes_are_not_allowed(rt: HostRuntime) {
+        assert!(rt; Shape::checked(&[2, 2, 2, 2]).is_some());
+        assert!(rt; Shape::checked(&[1, 1, 1, 1, 1]).is_none());
+        assert!(rt; Shape::checked(&[256, 257]).is_none());
+    }
+
+    #[test]
     fn frames_join_by_prefix(rt: HostRuntime) -> Result<(), Fail> {
         let three = Shape::new(&[3]).ok_or("rank")?;
         let two_three = Shape::new(&[2, 3]).ok_or("rank")?;

@@ -4,3 +4,4 @@ pub mod Spreading
 pub mod Repeating
 pub mod Judging
 pub mod Ruling
+pub mod Opening

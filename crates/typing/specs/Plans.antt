@@ -23,7 +23,7 @@ use Rattle.typing.specs.Typings.{types_of, Refused, Judged, operands_asked, shap
 
 -- What is known of a formula, as the theory has it.
 abbrev pub entry_of : Entry → theory.Entry
-entry_of e = record { parameters = types_of (take e.count e.all); result = array_type e.result; steps = e.steps; room = e.room; depth = e.depth }
+entry_of e = record { parameters = types_of (take e.parameters.count e.parameters.all); result = array_type e.result; steps = e.steps; room = e.room; depth = e.depth }
 
 -- What is known of formula g.
 abbrev pub known_in : List Entry → ℕ → theory.Entry

@@ -1,15 +1,13 @@
 // What typing works with and what it finds: the context of a line, what is known of an entered formula, and a line's type with its cells.
 ghost use Rattle.std.specs.Prelude.{◌≡◌, take};
 
+use super::parameters::Parameters;
 use shapes::ArrayType;
 
-/// What is known of a formula by its number: the types of its parameters, of which the first `count` count, that of its result, its
-/// forecasts, and whether it is withdrawn.
-// The parameters are kept in place, with their number beside them: entries stand in tables of fixed size, without a heap.
+/// What is known of a formula by its number: the types of its parameters and of its result, its forecasts, and whether it is withdrawn.
 #[derive(Clone, Copy)]
 pub struct Entry {
-    pub all: [ArrayType; 4],
-    pub count: u8,
+    pub parameters: Parameters,
     pub result: ArrayType,
     pub steps: u32,
     pub room: u32,
@@ -20,8 +18,7 @@ pub struct Entry {
 impl Entry {
     /// What is known of a number that was not given.
     pub const NONE: Entry = Entry {
-        all: [ArrayType::NOTHING; 4],
-        count: 0,
+        parameters: Parameters::NONE,
         result: ArrayType::NOTHING,
         steps: 0,
         room: 0,
@@ -31,10 +28,9 @@ impl Entry {
 
     /// The types of the parameters.
     pub fn parameters(&self) -> &[ArrayType]
-        ensures { result.now ≡ take self.now.count self.now.all }
+        ensures { result.now ≡ take self.now.parameters.count self.now.parameters.all }
     {
-        let count = usize::from(self.count).min(4);
-        &self.all[..count]
+        self.parameters.as_slice()
     }
 }
 

@@ -8,12 +8,14 @@ mod found;
 mod kinds;
 mod lifting;
 mod operands;
+mod parameters;
 mod rules;
 
 pub use applications::spread;
 pub use contents::{has_codes, parts_of_base, parts_of_shape};
 pub use found::{Context, Entry, Items, Lift, Typed};
 pub use operands::{Application, all_earlier};
+pub use parameters::Parameters;
 pub use rules::type_line;
 
 #[cfg(test)]

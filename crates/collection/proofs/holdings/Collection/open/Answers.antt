@@ -23,7 +23,7 @@ pub invariant_of-self : goal.invariant_of-self
 invariant_of-self g c =
     let s = c.args.self.now in
     let d = s.draft in
-    record { sound = ap (λ (e : Draft). sound e s.tables) c.begin.ensures ∙ begun_sound d s.tables s.serials c.in-Some.kept.all c.in-Some.kept.count s.sound }
+    record { sound = ap (λ (e : Draft). sound e s.tables) c.begin.ensures ∙ begun_sound d s.tables s.serials c.in-Some.kept s.sound }
 
 pub returns : goal.returns
 returns g c =

@@ -1,13 +1,14 @@
-// The parameters of a draft: what open asks of their types.
-ghost use Rattle.std.specs.Prelude.{◌≡◌};
+// The types of parameters, and what open asks of them.
+ghost use Rattle.std.specs.Prelude.{◌≡◌, ◌≤◌, length, take};
 ghost use Rattle.lines.specs.Lines.{type_of, types_given};
-ghost use Rattle.checker.specs.Parameters.{KnownType, KnownTypes};
+ghost use Rattle.typing.specs.Parameters.{KnownType, KnownTypes};
 
 use algebra::{Algebra, Stated};
 use lines::ParameterType;
 use shapes::{ArrayType, Shape};
 
 /// The types of up to four parameters, of which the first `count` count.
+// They are kept in place, with their number beside them: entries and drafts stand in tables of fixed size, without a heap.
 #[derive(Clone, Copy)]
 pub struct Parameters {
     pub all: [ArrayType; 4],
@@ -19,8 +20,8 @@ fn known_type<A: Algebra>(given: &ParameterType) -> Option<ArrayType>
     ensures { KnownType A.meaning (type_of given.now) result }
 {
     let bases = A::BASES.get();
-    let shape = Shape::new(given.shape)?;
-    if given.base < bases as u32 && shape.allowed() {
+    let shape = Shape::checked(given.shape)?;
+    if given.base < u32::from(bases) {
         Some(ArrayType {
             base: given.base,
             shape,
@@ -31,6 +32,21 @@ fn known_type<A: Algebra>(given: &ParameterType) -> Option<ArrayType>
 }
 
 impl Parameters {
+    /// No parameters.
+    pub const NONE: Parameters = Parameters {
+        all: [ArrayType::NOTHING; 4],
+        count: 0,
+    };
+
+    /// The types.
+    pub fn as_slice(&self) -> &[ArrayType]
+        ensures all { result.now ≡ take self.now.count self.now.all }
+        ensures few { length result.now ≤ 4 }
+    {
+        let count = usize::from(self.count).min(4);
+        &self.all[..count]
+    }
+
     /// Question 2: the types of at most four parameters, each with a known base type and an allowed shape.
     pub fn of<A: Algebra>(given: &[ParameterType]) -> Option<Parameters>
         ensures { KnownTypes A.meaning (types_given given.now) result }

@@ -7,7 +7,7 @@ use Rattle.remora.specs.Calls.{known_types}
 use Rattle.shapes.specs.declared.ArrayType.{ArrayType}
 use Rattle.shapes.specs.Axes.{array_type}
 use Rattle.typing.specs.Typings.{types_of}
-use Rattle.checker.specs.declared.parameters.Parameters.{Parameters}
+use Rattle.typing.specs.declared.parameters.Parameters.{Parameters}
 
 -- A type is made of exactly those with a known base type and an allowed shape.
 abbrev pub KnownType : Meaning → theory.ArrayType → Option ArrayType → Type 0

@@ -3,7 +3,7 @@ use Rattle.std.proofs.Common.{◌≡◌, length, take, drop}
 use Rattle.remora.specs.Calls.{known_types}
 use Rattle.lines.specs.Lines.{types_given}
 use Rattle.typing.specs.Typings.{types_of}
-use Rattle.checker.proofs.parameters.Parameters.of.Given as goal
+use Rattle.typing.proofs.parameters.Parameters.of.Given as goal
 
 abbrev pub invariant-loop-i : goal.invariant-loop-i
 invariant-loop-i g l =

@@ -5,9 +5,9 @@ use Rattle.std.proofs.lemmas.Bool.{and_left, and_right, and_from, le-leb, lt-leb
 use Rattle.remora.specs.Calls.{known_types}
 use Rattle.lines.specs.Lines.{type_of, types_given}
 use Rattle.typing.specs.Typings.{types_of}
-use Rattle.checker.specs.Parameters.{KnownTypes}
-use Rattle.checker.proofs.Opening.{known_yes, known_no, kept_more}
-use Rattle.checker.proofs.parameters.Parameters.of.Goals as goal
+use Rattle.typing.specs.Parameters.{KnownTypes}
+use Rattle.typing.proofs.Opening.{known_yes, known_no, kept_more}
+use Rattle.typing.proofs.parameters.Parameters.of.Goals as goal
 
 pub returns-then-count-gt4 : goal.returns-then-count-gt4
 returns-then-count-gt4 g c =

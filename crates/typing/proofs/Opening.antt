@@ -10,7 +10,7 @@ use Rattle.lines.specs.Lines.{type_of, types_given}
 use Rattle.shapes.specs.declared.ArrayType.{ArrayType}
 use Rattle.shapes.specs.Axes.{array_type}
 use Rattle.typing.specs.Typings.{types_of}
-use Rattle.checker.specs.Parameters.{KnownType}
+use Rattle.typing.specs.Parameters.{KnownType}
 
 module _ (m : Meaning) (ts : List ParameterType) (i : ℕ) (d : ParameterType) (h : i < length ts) where
   -- the types from number i on

@@ -1,7 +1,0 @@
--- There are as many types in the theory.
-use Rattle.std.proofs.Common.{ltb, sym, ap, ◌∙◌}
-use Rattle.formulas.proofs.Asking.{types_length}
-use Rattle.formulas.proofs.operands.is_typed.Goals as goal
-
-pub returns : goal.returns
-returns c = c.is_below.ensures ∙ ap (ltb c.args.number) (sym (types_length c.args.types.now))

@@ -1,4 +1,0 @@
--- The definitions that the contracts of this crate cite.
-pub mod Refusals
-pub mod Lines
-pub mod Typings
