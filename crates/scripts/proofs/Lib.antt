@@ -4,3 +4,4 @@ mod Numerals
 mod Exits
 mod Places
 mod Runs
+mod Values

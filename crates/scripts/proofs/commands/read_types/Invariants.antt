@@ -1,7 +1,5 @@
 -- Some types were read, and the words of the others are left.
-use Rattle.std.proofs.Common.{◌≡◌, length}
-use denote.Text.{Utf8}
-use denote.Shadow.{shadow}
+use Rattle.std.proofs.Common.{◌≡◌}
 use Rattle.scripts.specs.Words.{words_of}
 use Rattle.scripts.specs.Commands.{types_of}
 use Rattle.scripts.specs.Views.{types_seen}
@@ -9,9 +7,4 @@ use Rattle.scripts.proofs.Runs.{after}
 use Rattle.scripts.proofs.commands.read_types.Given as goal
 
 abbrev pub invariant-loop-word : goal.invariant-loop-word
-invariant-loop-word l =
-    shadow (Utf8 l.left)
-    × (types_of l.algebra (words_of l.text) ≡ after (types_seen l.types) (types_of l.algebra (words_of l.left)))
-
-abbrev pub decreases-loop-word : goal.decreases-loop-word
-decreases-loop-word l = length l.left
+invariant-loop-word l = types_of l.algebra (words_of l.text) ≡ after (types_seen l.types) (types_of l.algebra (words_of l.word-iterator.left.now))
