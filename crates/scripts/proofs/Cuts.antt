@@ -103,7 +103,7 @@ gap_plain : Plain gap
 gap_plain c e = grind (arith, nat_tests)
 
 -- What a list of characters as a pattern finds.
-abbrev FindsAmong : List ℕ → List ℕ → Option (ℕ × ℕ) → Type 0
+abbrev pub FindsAmong : List ℕ → List ℕ → Option (ℕ × ℕ) → Type 0
 FindsAmong p w o = (k : ℕ → Bool) → ((c : ℕ) → char_set_contains p c ≡ k c) → FindsBy k w o
 
 -- A split at the characters that part the numbers of a file gives a piece, and the others are left.

@@ -1,10 +1,9 @@
 -- What a reading answers from what its parts answered.
-use Rattle.std.proofs.Common.{◌≡◌, ℕ, List, IsErrAnd, MatchOption, Some, None, Ok, Err, Option, Result, String, Global, string_bytes, refl, sym, ap, ◌∙◌, subst, inl, inr}
+use Rattle.std.proofs.Common.{◌≡◌, ℕ, List, IsErrAnd, MatchOption, Some, None, Ok, Err, Option, Result, String, Global, string_bytes, sym, ap, ◌∙◌, subst, inl, inr}
 use Rattle.std.proofs.lemmas.Option.{MatchOption-at_some, MatchOption-at_none}
 use Rattle.std.proofs.lemmas.Result.{err_from_is_err_and}
 use Rattle.scripts.specs.declared.errors.ReadError.{ReadError}
-use Rattle.scripts.specs.Fields.{or_absent}
-use Rattle.scripts.specs.Readings.{Fault, Said, fault_seen, Blames, Reads, FoundOr, ReadsIf, and_then, or_fault}
+use Rattle.scripts.specs.Readings.{Fault, Said, fault_seen, Blames, Reads, FoundOr, and_then, or_fault}
 
 -- What is blamed of a text is blamed of one that has each fault of it.
 pub blames_like : {A B : Type 0} (o : Said A) (p : Said B) (e : ReadError) → ((f : Fault) → o ≡ Err f → p ≡ Err f) → Blames o e → Blames p e
@@ -51,13 +50,3 @@ pub found_reads : {X M : Type 0} (thing : Option X) (view : X → M) (o : Option
 found_reads thing view o word f tells (Ok x) seen named h = fault_some o f (view x) (MatchOption-at_some _ _ x h seen)
 found_reads thing view o word f tells (Err e) seen named (inl h) = inl h
 found_reads thing view o word f tells (Err e) seen named (inr h) = inr (fault_none o f (MatchOption-at_none _ _ h.0 seen) ∙ ap Err (sym (named h.1 e h.2 h.3)))
-
--- What a value says that may be left out is read, where what is read of a value that is there is what that value says.
-pub value_reads : {X M : Type 0} (said : Said (Option (List ℕ))) (reading : List ℕ → Said M) (view : X → M) (absent : X) (reads : List ℕ → Result X ReadError → Type 0) (r : Result X ReadError)
-    → ReadsIf said absent reads r
-    → ((v : List ℕ) (q : Result X ReadError) → reads v q → Reads (reading v) view q)
-    → Reads (and_then said (or_absent reading (view absent))) view r
-value_reads said reading view absent reads r (inl h) each = rw h (inl refl)
-value_reads (Err f) reading view absent reads r (inr h) each = let p = err_from_is_err_and r h in rw p.1 (inr (ap Err (sym p.2)))
-value_reads (Ok None) reading view absent reads r (inr h) each = rw h refl
-value_reads (Ok (Some v)) reading view absent reads r (inr h) each = each v r h

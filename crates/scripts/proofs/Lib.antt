@@ -5,3 +5,4 @@ mod Exits
 mod Places
 mod Runs
 mod Values
+mod Collected

@@ -4,7 +4,7 @@ use Rattle.scripts.specs.declared.names.AlgebraName.{AlgebraName}
 use Rattle.scripts.specs.declared.fields.FieldSet.TheVariants.{OnlySlip, OnlyCodes}
 use Rattle.scripts.specs.declared.commands.Verb.{Verb}
 use Rattle.scripts.specs.declared.commands.Verb.TheVariants.{Algebra, Store, Open, Line, Enter, Scrap, Withdraw, Entry, Begin, Step, Result, Close, Run}
-use Rattle.scripts.specs.Readings.{Fault, Said, and_then, or_fault, before, no_command, surplus, missing_number, missing_algebra}
+use Rattle.scripts.specs.Readings.{Fault, Said, and_then, or_fault, all_said, no_command, surplus, missing_number, missing_algebra}
 use Rattle.scripts.specs.Words.{words_of}
 use Rattle.scripts.specs.Numbers.{number_said, limit}
 use Rattle.scripts.specs.Names.{algebra_said, lookup, Typed, type_of}
@@ -76,8 +76,7 @@ formula_codes (w ∷ ws) = and_then (number_said w) (λ n. and_then (known (fiel
 
 -- The types that these words say, if each says one.
 abbrev pub types_of : AlgebraName → List (List ℕ) → Said (List Typed)
-types_of a [] = Ok []
-types_of a (w ∷ ws) = and_then (type_of a w) (λ t. before t (types_of a ws))
+types_of a ws = all_said (type_of a) ws
 
 -- What the words behind the name of a command say.
 abbrev pub arguments_of : AlgebraName → Verb → List (List ℕ) → Said Meant

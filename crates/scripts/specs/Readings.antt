@@ -1,5 +1,5 @@
 -- What a reading answers: what the text says, or what is wrong with it, or want of memory.
-use Rattle.std.specs.Prelude.{◌≡◌, ℕ, ◌⊎◌, List, ◌∷◌, Some, None, Ok, Err, IsErrAnd, String, string_bytes, Option, Result}
+use Rattle.std.specs.Prelude.{◌≡◌, ℕ, ◌⊎◌, List, [], ◌∷◌, Some, None, Ok, Err, IsErrAnd, String, string_bytes, Option, Result}
 use Rattle.std.specs.declared.alloc.Global.{Global}
 use Rattle.scripts.specs.declared.errors.ReadError.{ReadError}
 use Rattle.scripts.specs.declared.errors.ReadError.TheVariants.{NoMemory, NoCommand, MissingAlgebra, MissingNumber, Surplus, NoAlgebra, NoNumber, NoList, NoBase, NoOperator, NoKind, NoType, NoField, Twice}
@@ -69,6 +69,11 @@ or_fault (Some a) f = Ok a
 abbrev pub before : {X : Type 0} → X → Said (List X) → Said (List X)
 before x (Err f) = Err f
 before x (Ok xs) = Ok (x ∷ xs)
+
+-- What these words say, if each says a thing.
+abbrev pub all_said : {M : Type 0} → (List ℕ → Said M) → List (List ℕ) → Said (List M)
+all_said said [] = Ok []
+all_said said (w ∷ ws) = and_then (said w) (λ m. before m (all_said said ws))
 
 -- A thing that was looked for in a word is found, or it is not there, and an error tells of that word.
 abbrev pub FoundOr : {X : Type 0} → Option X → List ℕ → (String Global → ReadError → Type 0) → Result X ReadError → Type 0

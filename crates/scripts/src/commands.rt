@@ -163,12 +163,9 @@ fn formula_codes(heap: Global, text: &str) -> Result<(u32, Codes), ReadError>
 fn read_types(heap: Global, algebra: AlgebraName, text: &str) -> Result<Vec<TypeWord>, ReadError>
     ensures { Reads (types_of algebra (words_of text.now)) types_seen result }
 {
-    let mut types = Vec::new(heap);
-    for word in Words::new(text) {
-        let read = read_type(heap, algebra, word)?;
-        types.push(read)?;
-    }
-    Ok(types)
+    Words::new(text)
+        .map(|word| read_type(heap, algebra, word))
+        .try_collect(heap)
 }
 
 /// Reads what follows the word that names a command.

@@ -39,6 +39,7 @@ pub enum ReadError {
 }
 
 /// An allocation that fails is want of memory.
+// By hand, since clauses name the error that a `?` makes of it.
 impl From<AllocError> for ReadError {
     ghost from_gives = { λ _ r. r ≡ NoMemory };
 
@@ -48,6 +49,7 @@ impl From<AllocError> for ReadError {
 }
 
 /// So is a value that found no place.
+// By hand for the same reason.
 impl<T: Drop> From<AllocFailed<T>> for ReadError {
     ghost from_gives = { λ _ r. r ≡ NoMemory };
 

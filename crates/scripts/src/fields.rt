@@ -31,6 +31,7 @@ pub enum Codes {
 }
 
 /// The fields of a line as they are written; what is left out is 0 or empty.
+// Kinds and functions stay raw numbers, so that every draft can be shown and refused.
 #[derive(Debug, Drop)]
 pub struct LineFields {
     pub slip: Option<u64>,

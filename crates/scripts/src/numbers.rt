@@ -35,27 +35,19 @@ pub fn read_number(heap: Global, word: &str) -> Result<u64, ReadError>
 fn read_between(heap: Global, text: &str) -> Result<Vec<u64>, ReadError>
     ensures { Reads (numbers_in (pieces comma text.now)) vec_items result }
 {
-    let mut numbers = Vec::new(heap);
-    for piece in text.split(',') {
-        let number = read_number(heap, piece)?;
-        numbers.push(number)?;
-    }
-    Ok(numbers)
+    text.split(',')
+        .map(|piece| read_number(heap, piece))
+        .try_collect(heap)
 }
 
 /// Reads the text of a file of codes: numbers between blanks, tabs, line ends and commas.
 pub fn read_numbers(heap: Global, text: &str) -> Result<Vec<u64>, ReadError>
     ensures { Reads (numbers_in (words_in (pieces gap text.now))) vec_items result }
 {
-    let mut numbers = Vec::new(heap);
-    for piece in text.split([' ', '\t', '\r', '\n', ',']) {
-        if piece.is_empty() {
-            continue;
-        }
-        let number = read_number(heap, piece)?;
-        numbers.push(number)?;
-    }
-    Ok(numbers)
+    text.split([' ', '\t', '\r', '\n', ','])
+        .filter(|piece| !piece.is_empty())
+        .map(|piece| read_number(heap, piece))
+        .try_collect(heap)
 }
 
 /// Reads what follows the `[` of a list of numbers in a word.

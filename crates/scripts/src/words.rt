@@ -4,6 +4,7 @@ ghost use Rattle.std.specs.Iterator.{YieldsFirstRef, item_count};
 ghost use Rattle.scripts.specs.Words.{words_of};
 
 /// The first word of a text and what follows it, if there is a word.
+// A loop and no chain over `split`, which does not tell the text that follows a piece.
 pub fn next_word(text: &str) -> Option<(&str, &str)>
     ensures words { MatchOption result (words_of text.now ≡ []) (λ p. words_of text.now ≡ p.0.now ∷ words_of p.1.now) }
     ensures falls { IfSome result (λ p. length p.1.now < length text.now) }
