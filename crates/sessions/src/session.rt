@@ -127,6 +127,7 @@ impl Session {
     }
 
     /// Scraps the slips that are still held, and ends the session.
+    // A loop over `pop`, since a slip is no `Drop`, which a `for` over the vector would ask.
     pub fn end(self) {
         let Session {
             mut collection,
