@@ -130,7 +130,7 @@ pub fn slip_in(heap: Global, text: &str) -> Result<Option<u64>, ReadError>
     ensures { Reads (slip_of (words_of text.now)) itself result }
 {
     field_in(heap, text, "slip", None, |value| {
-        read_number(heap, value).map(Some)
+        Ok(Some(read_number(heap, value)?))
     })
 }
 
