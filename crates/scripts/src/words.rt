@@ -4,22 +4,15 @@ ghost use Rattle.std.specs.Iterator.{YieldsFirstRef, item_count};
 ghost use Rattle.scripts.specs.Words.{words_of};
 
 /// The first word of a text and what follows it, if there is a word.
-// A loop and no chain over `split`, which does not tell the text that follows a piece.
 pub fn next_word(text: &str) -> Option<(&str, &str)>
     ensures words { MatchOption result (words_of text.now ≡ []) (λ p. words_of text.now ≡ p.0.now ∷ words_of p.1.now) }
     ensures falls { IfSome result (λ p. length p.1.now < length text.now) }
 {
-    let mut left = text;
-    while let Some((piece, rest)) = left.split_once([' ', '\t', '\r']) {
-        if !piece.is_empty() {
-            return Some((piece, rest));
-        }
-        left = rest;
-    }
-    if left.is_empty() {
-        None
-    } else {
-        Some((left, ""))
+    let text = text.trim_start_matches([' ', '\t', '\r']);
+    match text.split_once([' ', '\t', '\r']) {
+        Some((word, rest)) => Some((word, rest)),
+        None if text.is_empty() => None,
+        None => Some((text, "")),
     }
 }
 
