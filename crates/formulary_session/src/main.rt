@@ -6,6 +6,29 @@ use scripts::{AlgebraName, Codes, Command, LineFields, read_command, read_number
 use sessions::{Session, Told, Trouble};
 use std::process::ExitCode;
 use std::{env, fs, io};
+use thiserror::Error;
+
+/// What stopped a script, with the number of the line, from 1.
+#[derive(Debug, Drop, Error)]
+#[error("line {line}: {trouble}")]
+struct Stopped {
+    line: usize,
+    trouble: Trouble,
+}
+
+/// Why the program fails.
+#[derive(Debug, Drop, Error)]
+enum Failure {
+    /// A script was stopped.
+    #[error(transparent)]
+    Script(#[from] Stopped),
+    /// The file of a script cannot be read.
+    #[error("formulary: {name}: {error}")]
+    Unread { name: String, error: io::Error },
+    /// The names or the script cannot be read, or an answer not be written.
+    #[error(transparent)]
+    System(#[from] io::Error),
+}
 
 /// The codes that a command gives, out of the script or out of the file that it names.
 fn codes_of(rt: &HostRuntime, codes: Codes) -> Result<Vec<u64>, Trouble> {
@@ -39,18 +62,19 @@ fn perform(
     first: bool,
     command: Command,
 ) -> Result<Option<Told>, Trouble> {
-    match command {
-        Command::Nothing => Ok(None),
-        Command::Algebra(_) if !first => Err(Trouble::LateAlgebra),
-        Command::Algebra(AlgebraName::Counts) => Ok(None),
-        Command::Open(types) => Ok(Some(session.open(rt.alloc(), types.as_slice())?)),
-        Command::Line(fields) => Ok(Some(add_line(rt, session, fields)?)),
-        Command::Enter(serial) => Ok(Some(session.enter(serial)?)),
-        Command::Scrap(serial) => Ok(Some(session.scrap(serial)?)),
-        Command::Withdraw(number) => Ok(Some(session.withdraw(number))),
-        Command::Entry(number) => Ok(Some(session.entry(number))),
-        _ => Err(Trouble::NotYet),
-    }
+    let told = match command {
+        Command::Nothing => return Ok(None),
+        Command::Algebra(_) if !first => return Err(Trouble::LateAlgebra),
+        Command::Algebra(AlgebraName::Counts) => return Ok(None),
+        Command::Open(types) => session.open(rt.alloc(), types.as_slice())?,
+        Command::Line(fields) => add_line(rt, session, fields)?,
+        Command::Enter(serial) => session.enter(serial)?,
+        Command::Scrap(serial) => session.scrap(serial)?,
+        Command::Withdraw(number) => session.withdraw(number),
+        Command::Entry(number) => session.entry(number),
+        _ => return Err(Trouble::NotYet),
+    };
+    Ok(Some(told))
 }
 
 /// Reads one line of a script, makes its call and prints the answer; says whether the line has a command.
@@ -63,67 +87,60 @@ fn step(rt: &HostRuntime, session: &mut Session, first: bool, line: &str) -> Res
     Ok(said)
 }
 
-/// Goes through a script line by line; what stops it is told with the number of the line, from 1.
-fn play(rt: &HostRuntime, session: &mut Session, script: &str) -> Result<(), (usize, Trouble)> {
+/// Goes through a script line by line, up to the first that stops it.
+fn play(rt: &HostRuntime, session: &mut Session, script: &str) -> Result<(), Stopped> {
     let mut first = true;
     for (i, line) in script.lines().enumerate() {
-        match step(rt, session, first, line) {
-            Ok(said) => first = first && !said,
-            Err(trouble) => return Err((i.saturating_add(1), trouble)),
-        }
+        let said = step(rt, session, first, line).map_err(|trouble| Stopped {
+            line: i.saturating_add(1),
+            trouble,
+        })?;
+        first = first && !said;
     }
     Ok(())
 }
 
-/// One session: its answers, its summary, and what stopped it; says whether it went to its end.
-fn run(rt: &HostRuntime, script: &str) -> io::Result<bool> {
+/// One session: its answers, its summary, and what stopped it.
+fn run(rt: &HostRuntime, script: &str) -> Result<(), Failure> {
     let mut session = Session::new(rt.alloc());
     let played = play(rt, &mut session, script);
     let summary = &session;
     let printed = println!(rt; "{summary}");
     session.end();
     printed?;
-    match played {
-        Ok(()) => Ok(true),
-        Err((number, trouble)) => {
-            eprintln!(rt; "line {number}: {trouble}")?;
-            Ok(false)
-        }
-    }
+    Ok(played?)
 }
 
-/// The session that the script in a file gives. A file that cannot be read is told.
-fn run_file(rt: &HostRuntime, name: &str) -> io::Result<bool> {
-    match fs::read_to_string(rt, name) {
+/// The session that the script in a file gives.
+fn run_file(rt: &HostRuntime, name: String) -> Result<(), Failure> {
+    match fs::read_to_string(rt, name.as_str()) {
         Ok(script) => run(rt, script.as_str()),
-        Err(error) => {
-            eprintln!(rt; "formulary: {name}: {error}")?;
-            Ok(false)
-        }
+        Err(error) => Err(Failure::Unread { name, error }),
     }
 }
 
 /// Runs the scripts that the arguments name up to the first that fails, each as a session of its own, or the one on standard input.
-fn run_all(rt: &HostRuntime) -> io::Result<bool> {
+fn run_all(rt: &HostRuntime) -> Result<(), Failure> {
     let mut named = false;
     for name in env::args(rt)?.skip(1) {
         named = true;
-        if !run_file(rt, name.as_str())? {
-            return Ok(false);
-        }
+        run_file(rt, name)?;
     }
     if named {
-        return Ok(true);
+        return Ok(());
     }
     let script = io::read_to_string(rt.alloc(), rt.stdin())?;
     run(rt, script.as_str())
 }
 
-/// Runs the scripts that are named; the status is 1 where one fails.
+/// Runs the scripts that are named; the status is 1 where one fails, and what failed is told.
 fn main(rt: HostRuntime) -> io::Result<ExitCode> {
-    if run_all(&rt)? {
-        Ok(ExitCode::SUCCESS)
-    } else {
-        Ok(ExitCode::FAILURE)
+    match run_all(&rt) {
+        Ok(()) => Ok(ExitCode::SUCCESS),
+        Err(Failure::System(error)) => Err(error),
+        Err(failure) => {
+            eprintln!(rt; "{failure}")?;
+            Ok(ExitCode::FAILURE)
+        }
     }
 }

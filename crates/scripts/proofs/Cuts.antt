@@ -1,11 +1,13 @@
 -- How a text is cut into pieces: by a split, and at the first match.
-use Rattle.std.proofs.Common.{◌≡◌, ℕ, ◌+◌, ◌<◌, Bool, true, false, cond, not, eqb, List, [], ◌∷◌, ◌++◌, length, get_or, take, drop, Some, None, Option, sym, refl, ap, ◌∙◌, subst, arith, MatchOption}
+use Rattle.std.proofs.Common.{◌≡◌, ℕ, zero, suc, IfSome, rules, ◌+◌, ◌<◌, Bool, true, false, cond, not, eqb, List, [], ◌∷◌, ◌++◌, length, get_or, take, drop, Some, None, Option, sym, refl, ap, ◌∙◌, subst, arith, MatchOption}
 use Rattle.std.specs.Char.{char_set_contains}
-use Rattle.std.specs.Str.Pattern.{FindsBy, FindsChar, IsSplitAtFirstMatch, HasCharAt}
+use Rattle.std.specs.Str.Pattern.{CutsPrefixes, FindsPrefixBy, HasPassingCharAt, FindsBy, FindsChar, IsSplitAtFirstMatch, HasCharAt}
 use Rattle.std.specs.Str.{NoCharPasses}
 use Rattle.std.specs.List.{AllByRecursion}
 use Rattle.std.proofs.ByRecursion.{All-from_get_or}
+use Rattle.std.proofs.Math.Bool.{true≢false}
 use Rattle.std.proofs.lemmas.List.{take-append-drop}
+use Rattle.std.proofs.lemmas.Bool.{ne_eqb}
 use Rattle.std.proofs.lemmas.Bool.Decides.{nat_tests}
 use Rattle.std.proofs.lemmas.Str.{encode_ascii, len_utf8_bounds, NoCharPasses-byte}
 use Rattle.traces.specs.Texts.{pieces, grown, words_in}
@@ -103,9 +105,39 @@ gap_plain : Plain gap
 gap_plain c e = grind (arith, nat_tests)
 
 -- What a list of characters as a pattern finds.
-abbrev FindsAmong : List ℕ → List ℕ → Option (ℕ × ℕ) → Type 0
+abbrev pub FindsAmong : List ℕ → List ℕ → Option (ℕ × ℕ) → Type 0
 FindsAmong p w o = (k : ℕ → Bool) → ((c : ℕ) → char_set_contains p c ≡ k c) → FindsBy k w o
 
 -- A split at the characters that part the numbers of a file gives a piece, and the others are left.
 pub next_gap : (p : List ℕ) → ((c : ℕ) → char_set_contains p c ≡ gap c) → (w x rest : List ℕ) (before live : Bool) → true ≡ before → IsSplitAtFirstMatch (FindsAmong p) w x live rest → remaining gap before w ≡ x ∷ remaining gap live rest
 next_gap p tests = next_left gap gap_plain (FindsAmong p) (λ v o f. f gap tests)
+
+-- A blank at the front of a text parts no word.
+front_blank : (w : List ℕ) (j : ℕ) → HasPassingCharAt blank w 0 j → words_of w ≡ words_of (drop j w)
+front_blank w j h =
+    let c = h.0 in
+    let rest = drop j w in
+    let split : w ≡ c ∷ rest = h.2.split ∙ ap (λ e. e ++ rest) (encode_ascii c (blank_plain c h.1)) in
+    ap words_of split ∙ ap (λ v. words_in (cond v ([] ∷ pieces blank rest) (grown c (pieces blank rest)))) h.1
+
+-- What a list of characters as a pattern cuts off the front.
+abbrev pub CutsAmong : List ℕ → List ℕ → Option ℕ → Type 0
+CutsAmong p w o = (k : ℕ → Bool) → ((c : ℕ) → char_set_contains p c ≡ k c) → FindsPrefixBy k w o
+
+-- So do all blanks that are cut off the front.
+pub words_trimmed : (p : List ℕ) → ((c : ℕ) → char_set_contains p c ≡ blank c) → (w : List ℕ) (ns : List ℕ) (r : List ℕ) → CutsPrefixes (CutsAmong p) w ns r → words_of w ≡ words_of r
+words_trimmed p tests w [] r h = ap words_of (sym h)
+words_trimmed p tests w (n ∷ ns) r h = words_trimmed p tests w ns h.0 h.1 ∙ front_blank h.0 n (h.2 blank tests) ∙ ap words_of (sym h.3)
+
+-- A text whose blanks at the front were cut off begins with none.
+no_blank : (w : List ℕ) (o : Option ℕ) → FindsPrefixBy blank w o → IfSome o (λ n. n ≡ 0) → (j : ℕ) → HasPassingCharAt blank w 0 j → ⊥
+no_blank w None f z j h =
+    let plain : h.0 < 128 = blank_plain h.0 h.1 in
+    let no : blank h.0 ≡ false = f h.0 (drop j w) (search rules) h.2.split in
+    true≢false (sym h.1 ∙ no)
+no_blank w (Some n) f z j h = omega (arith, f.2.ends, (len_utf8_bounds f.0).0, z)
+
+-- So the text before its first blank is a word.
+pub cut_filled : (w : List ℕ) (o : Option ℕ) → FindsPrefixBy blank w o → IfSome o (λ n. n ≡ 0) → (i j : ℕ) → HasPassingCharAt blank w i j → (x : List ℕ) → length x ≡ i → eqb (length x) 0 ≡ false
+cut_filled w o f z zero j h x e = absurd (no_blank w o f z j h)
+cut_filled w o f z (suc i) j h x e = ne_eqb (length x) 0 (λ k. omega arith)

@@ -1,8 +1,9 @@
 -- What a reading answers from what its parts answered.
-use Rattle.std.proofs.Common.{◌≡◌, IsErrAnd, Some, None, Ok, Err, Option, Result, sym, ap, ◌∙◌, subst, inl, inr}
+use Rattle.std.proofs.Common.{◌≡◌, ℕ, List, IsErrAnd, MatchOption, Some, None, Ok, Err, Option, Result, String, Global, string_bytes, sym, ap, ◌∙◌, subst, inl, inr}
+use Rattle.std.proofs.lemmas.Option.{MatchOption-at_some, MatchOption-at_none}
 use Rattle.std.proofs.lemmas.Result.{err_from_is_err_and}
 use Rattle.scripts.specs.declared.errors.ReadError.{ReadError}
-use Rattle.scripts.specs.Readings.{Fault, Said, fault_seen, Blames, Reads, and_then, or_fault}
+use Rattle.scripts.specs.Readings.{Fault, Said, fault_seen, Blames, Reads, FoundOr, and_then, or_fault}
 
 -- What is blamed of a text is blamed of one that has each fault of it.
 pub blames_like : {A B : Type 0} (o : Said A) (p : Said B) (e : ReadError) → ((f : Fault) → o ≡ Err f → p ≡ Err f) → Blames o e → Blames p e
@@ -40,3 +41,12 @@ reads_next o next a view r h k = subst (λ s. Reads s view r) (sym (then_said o 
 -- The exit of a `?` tells the error of the part.
 pub reads_break : {M X : Type 0} (said : Said M) (view : X → M) (r : Result X ReadError) (e : ReadError) → IsErrAnd r (λ y. y ≡ e) → Blames said e → Reads said view r
 reads_break said view r e h k = let p = err_from_is_err_and r h in rw (p.1, p.2) k
+
+-- What was looked for is read, or the fault of the word is told, where an error tells that fault.
+pub found_reads : {X M : Type 0} (thing : Option X) (view : X → M) (o : Option M) (word : List ℕ) (f : Fault) (tells : String Global → ReadError → Type 0) (r : Result X ReadError)
+    → MatchOption thing (o ≡ None) (λ x. o ≡ Some (view x))
+    → ((text : String Global) (e : ReadError) → string_bytes text ≡ word → tells text e → fault_seen e ≡ f)
+    → FoundOr thing word tells r → Reads (or_fault o f) view r
+found_reads thing view o word f tells (Ok x) seen named h = fault_some o f (view x) (MatchOption-at_some _ _ x h seen)
+found_reads thing view o word f tells (Err e) seen named (inl h) = inl h
+found_reads thing view o word f tells (Err e) seen named (inr h) = inr (fault_none o f (MatchOption-at_none _ _ h.0 seen) ∙ ap Err (sym (named h.1 e h.2 h.3)))

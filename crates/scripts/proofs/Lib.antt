@@ -4,3 +4,5 @@ mod Numerals
 mod Exits
 mod Places
 mod Runs
+mod Values
+mod Collected

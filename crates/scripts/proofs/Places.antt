@@ -1,10 +1,11 @@
 -- Names that a word is not, and where a text is cut.
-use Rattle.std.proofs.Common.{◌≡◌, ℕ, ◌+◌, ◌<◌, Bool, true, false, cond, List, [], ◌∷◌, ◌++◌, length, get_or, Some, None, Option, refl, ap, ◌∙◌, Bor, MatchOption}
-use Rattle.std.specs.List.{AllByRecursion}
+use Rattle.std.proofs.Common.{◌≡◌, ℕ, ◌+◌, ◌<◌, Bool, true, false, cond, ◌||◌, List, [], ◌∷◌, ◌++◌, map, length, get_or, Some, None, Option, sym, refl, ap, ◌∙◌, Bor, MatchOption, IfSome, arith}
+use Rattle.std.specs.List.{AllByRecursion, list_any, position_from}
 use Rattle.std.specs.Str.{bytes_eq}
 use Rattle.std.proofs.ByRecursion.{All-from_get_or}
 use Rattle.std.proofs.lemmas.Slice.Eq.{bytes_eq-Decides}
 use Rattle.std.proofs.lemmas.Str.Pattern.{IsSplitOnceResult, split_parts}
+use Rattle.std.specs.Bool.{one_answer}
 use Rattle.std.proofs.lemmas.Bool.{ne_eqb, eq-eqb}
 use Rattle.scripts.specs.Names.{place_in, lookup, cut_at, grown_front}
 use Rattle.scripts.specs.Fields.{is_in}
@@ -17,10 +18,20 @@ differs w x h = go (bytes_eq w x) refl
     go false e = refl
     go true e = absurd (h ((bytes_eq-Decides w x).0 e))
 
--- A word that is none of these names has no place among them.
-pub place_none : (names : List (List ℕ)) (n : ℕ) (w : List ℕ) → AllByRecursion (λ x. w ≡ x → ⊥) names → place_in names n w ≡ None
-place_none [] n w h = refl
-place_none (x ∷ xs) n w h = ap (λ v. cond v (Some n) (place_in xs (n + 1) w)) (differs w x h.0) ∙ place_none xs (n + 1) w h.1
+-- The place of a word among the texts of these names is that of the first name that it equals.
+pub place_of_parts : (w : List ℕ) (n : ℕ) (names : List (Bor (List ℕ))) → position_from (λ name. bytes_eq w name.now) n names ≡ place_in (map (λ name. name.now) names) n w
+place_of_parts w n [] = refl
+place_of_parts w n (x ∷ xs) = ap (λ later. cond (bytes_eq w x.now) (Some n) later) (place_of_parts w (n + 1) xs)
+
+-- A word that has a place among these names has one below their end.
+pub place_below : (w : List ℕ) (n : ℕ) (names : List (List ℕ)) → IfSome (place_in names n w) (λ i. i < n + length names)
+place_below w n [] = tt
+place_below w n (x ∷ xs) = go (bytes_eq w x) (place_in xs (n + 1) w) (place_below w (n + 1) xs)
+  where
+    go : (v : Bool) (o : Option ℕ) → IfSome o (λ i. i < n + 1 + length xs) → IfSome (cond v (Some n) o) (λ i. i < n + length (x ∷ xs))
+    go true o h = omega arith
+    go false None h = tt
+    go false (Some i) h = omega arith
 
 -- A text with no such byte is not cut.
 cut_none : (c : ℕ) (bs : List ℕ) → AllByRecursion (λ b. b ≡ c → ⊥) bs → cut_at c bs ≡ None
@@ -42,10 +53,17 @@ cut_split c bs r h l = go r (split_parts c bs r h l)
     go None f = cut_none c bs (All-from_get_or (λ b. b ≡ c → ⊥) bs 0 f)
     go (Some x) f = ap (cut_at c) f.0 ∙ cut_some c x.0.now x.1.now (All-from_get_or (λ b. b ≡ c → ⊥) x.0.now 0 f.1)
 
--- A word that is none of these names is not among them.
-pub is_in_none : (names : List (List ℕ)) (w : List ℕ) → AllByRecursion (λ x. w ≡ x → ⊥) names → is_in names w ≡ false
-is_in_none [] w h = refl
-is_in_none (x ∷ xs) w h = ap (λ v. cond v true (is_in xs w)) (differs w x h.0) ∙ is_in_none xs w h.1
+-- Two texts are told apart in either order alike.
+bytes_eq_turned : (x w : List ℕ) → bytes_eq x w ≡ bytes_eq w x
+bytes_eq_turned x w =
+    let there = bytes_eq-Decides x w in
+    let back = bytes_eq-Decides w x in
+    one_answer _ _ there ((λ e. sym (back.0 e)), (λ e. back.1 (sym e)))
+
+-- A word that one of these parts equals is one of their texts.
+pub is_in_parts : (w : List ℕ) (names : List (Bor (List ℕ))) → list_any (λ name. bytes_eq name.now w) names ≡ is_in (map (λ name. name.now) names) w
+is_in_parts w [] = refl
+is_in_parts w (x ∷ xs) = ap (λ v. v || list_any (λ name. bytes_eq name.now w) xs) (bytes_eq_turned x.now w) ∙ ap (λ later. bytes_eq w x.now || later) (is_in_parts w xs)
 
 -- A word that is none of the names of a table has nothing there.
 pub lookup_none : {X : Type 0} (xs : List (List ℕ × X)) (w : List ℕ) → AllByRecursion (λ x. w ≡ x.0 → ⊥) xs → lookup xs w ≡ None

@@ -4,7 +4,7 @@ use Rattle.scripts.specs.declared.names.AlgebraName.{AlgebraName}
 use Rattle.scripts.specs.declared.fields.FieldSet.TheVariants.{OnlySlip, OnlyCodes}
 use Rattle.scripts.specs.declared.commands.Verb.{Verb}
 use Rattle.scripts.specs.declared.commands.Verb.TheVariants.{Algebra, Store, Open, Line, Enter, Scrap, Withdraw, Entry, Begin, Step, Result, Close, Run}
-use Rattle.scripts.specs.Readings.{Said, and_then, or_fault, before, no_command, surplus, missing_number, missing_algebra}
+use Rattle.scripts.specs.Readings.{Fault, Said, and_then, or_fault, all_said, no_command, surplus, missing_number, missing_algebra}
 use Rattle.scripts.specs.Words.{words_of}
 use Rattle.scripts.specs.Numbers.{number_said, limit}
 use Rattle.scripts.specs.Names.{algebra_said, lookup, Typed, type_of}
@@ -43,10 +43,14 @@ abbrev pub nothing_in : List (List ℕ) → Said (Unit {0})
 nothing_in [] = Ok tt
 nothing_in (w ∷ ws) = Err (surplus w)
 
+-- One word, or else what is missing.
+abbrev pub only_word : Fault → List (List ℕ) → Said (List ℕ)
+only_word missing [] = Err missing
+only_word missing (w ∷ ws) = and_then (nothing_in ws) (λ _. Ok w)
+
 -- One number.
 abbrev pub only_number : List (List ℕ) → Said ℕ
-only_number [] = Err missing_number
-only_number (w ∷ ws) = and_then (nothing_in ws) (λ _. number_said w)
+only_number ws = and_then (only_word missing_number ws) number_said
 
 -- The number of one formula.
 abbrev pub only_formula : List (List ℕ) → Said ℕ
@@ -54,8 +58,7 @@ only_formula ws = and_then (only_number ws) (λ n. Ok (limit n))
 
 -- One algebra.
 abbrev pub only_algebra : List (List ℕ) → Said AlgebraName
-only_algebra [] = Err missing_algebra
-only_algebra (w ∷ ws) = and_then (nothing_in ws) (λ _. algebra_said w)
+only_algebra ws = and_then (only_word missing_algebra ws) algebra_said
 
 -- A slip that may be named, and nothing more.
 abbrev pub only_slip : List (List ℕ) → Said (Option ℕ)
@@ -73,8 +76,7 @@ formula_codes (w ∷ ws) = and_then (number_said w) (λ n. and_then (known (fiel
 
 -- The types that these words say, if each says one.
 abbrev pub types_of : AlgebraName → List (List ℕ) → Said (List Typed)
-types_of a [] = Ok []
-types_of a (w ∷ ws) = and_then (type_of a w) (λ t. before t (types_of a ws))
+types_of a ws = all_said (type_of a) ws
 
 -- What the words behind the name of a command say.
 abbrev pub arguments_of : AlgebraName → Verb → List (List ℕ) → Said Meant

@@ -1,5 +1,6 @@
 -- What the words of a command say as fields, in any order.
-use Rattle.std.specs.Prelude.{ℕ, Bool, true, false, cond, List, [], ◌∷◌, Some, None, Ok, Err, codes, Option}
+use Rattle.std.specs.Prelude.{ℕ, Bool, false, cond, List, [], ◌∷◌, Some, None, Ok, Err, codes, Option}
+use Rattle.std.specs.List.{list_any}
 use Rattle.std.specs.Str.{bytes_eq}
 use Rattle.scripts.specs.declared.names.AlgebraName.{AlgebraName}
 use Rattle.scripts.specs.declared.fields.FieldSet.{FieldSet}
@@ -16,8 +17,7 @@ field_names OnlyCodes = codes "codes" ∷ []
 
 -- A word is one of these names.
 abbrev pub is_in : List (List ℕ) → List ℕ → Bool
-is_in [] w = false
-is_in (x ∷ xs) w = cond (bytes_eq w x) true (is_in xs w)
+is_in names w = list_any (bytes_eq w) names
 
 -- A word that is cut at its first `=` gives a field of one of these names.
 abbrev pub given_in : List (List ℕ) → Option (List ℕ × List ℕ) → Bool

@@ -1,5 +1,6 @@
 -- What a word says as a name: of an algebra, a base type, an operator, a kind, or a type.
-use Rattle.std.specs.Prelude.{ℕ, ◌+◌, cond, List, [], ◌∷◌, map, Some, None, Ok, codes, Option, ◌==◌}
+use Rattle.std.specs.Prelude.{ℕ, cond, List, [], ◌∷◌, map, Some, None, Ok, codes, Option, ◌==◌}
+use Rattle.std.specs.List.{position_from}
 use Rattle.std.specs.Str.{bytes_eq}
 use Rattle.scripts.specs.declared.names.AlgebraName.{AlgebraName}
 use Rattle.scripts.specs.declared.names.AlgebraName.TheVariants.{Counts, Amplitudes}
@@ -25,8 +26,7 @@ algebra_said w = or_fault (algebra_of w) (no_algebra w)
 
 -- The place of a word in a list of names, from a number on.
 abbrev pub place_in : List (List ℕ) → ℕ → List ℕ → Option ℕ
-place_in [] n w = None
-place_in (x ∷ xs) n w = cond (bytes_eq w x) (Some n) (place_in xs (n + 1) w)
+place_in names n w = position_from (bytes_eq w) n names
 
 -- The names of the operators, in the order of their numbers.
 abbrev pub operators : List (List ℕ)

@@ -3,7 +3,7 @@ use Rattle.std.specs.Prelude.{ℕ, ◌+◌, ◌-◌, ◌*◌, ◌^◌, Bool, con
 use Rattle.std.specs.Char.{char_set_contains}
 use Rattle.std.specs.Str.{all_ascii_digits}
 use Rattle.traces.specs.Texts.{pieces}
-use Rattle.scripts.specs.Readings.{Said, and_then, or_fault, before, no_number, no_list}
+use Rattle.scripts.specs.Readings.{Said, and_then, or_fault, all_said, no_number, no_list}
 
 -- The number that digits write in decimal, after those that are read.
 abbrev pub read_on : ℕ → List ℕ → ℕ
@@ -36,8 +36,7 @@ gap b = char_set_contains (32 ∷ 9 ∷ 13 ∷ 10 ∷ 44 ∷ []) b
 
 -- The numbers that these words say.
 abbrev pub numbers_in : List (List ℕ) → Said (List ℕ)
-numbers_in [] = Ok []
-numbers_in (w ∷ ws) = and_then (number_said w) (λ n. before n (numbers_in ws))
+numbers_in ws = all_said number_said ws
 
 -- The numbers between commas: none in an empty text.
 abbrev pub between : List ℕ → Said (List ℕ)

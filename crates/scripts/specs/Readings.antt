@@ -1,5 +1,6 @@
 -- What a reading answers: what the text says, or what is wrong with it, or want of memory.
-use Rattle.std.specs.Prelude.{◌≡◌, ℕ, ◌⊎◌, List, ◌∷◌, Some, None, Ok, Err, string_bytes, Option, Result}
+use Rattle.std.specs.Prelude.{◌≡◌, ℕ, ◌⊎◌, List, [], ◌∷◌, Some, None, Ok, Err, IsErrAnd, String, string_bytes, Option, Result}
+use Rattle.std.specs.declared.alloc.Global.{Global}
 use Rattle.scripts.specs.declared.errors.ReadError.{ReadError}
 use Rattle.scripts.specs.declared.errors.ReadError.TheVariants.{NoMemory, NoCommand, MissingAlgebra, MissingNumber, Surplus, NoAlgebra, NoNumber, NoList, NoBase, NoOperator, NoKind, NoType, NoField, Twice}
 
@@ -68,3 +69,23 @@ or_fault (Some a) f = Ok a
 abbrev pub before : {X : Type 0} → X → Said (List X) → Said (List X)
 before x (Err f) = Err f
 before x (Ok xs) = Ok (x ∷ xs)
+
+-- What these words say, if each says a thing.
+abbrev pub all_said : {M : Type 0} → (List ℕ → Said M) → List (List ℕ) → Said (List M)
+all_said said [] = Ok []
+all_said said (w ∷ ws) = and_then (said w) (λ m. before m (all_said said ws))
+
+-- A thing that was looked for in a word is found, or it is not there, and an error tells of that word.
+abbrev pub FoundOr : {X : Type 0} → Option X → List ℕ → (String Global → ReadError → Type 0) → Result X ReadError → Type 0
+FoundOr thing word tells (Ok x) = thing ≡ Some x
+FoundOr thing word tells (Err e) = (e ≡ NoMemory) ⊎ ((thing ≡ None) × (text : String Global) × (string_bytes text ≡ word) × tells text e)
+
+-- What a value is read to, that may be left out: `absent` stands for one that is left out, and `reads` tells what is read of one that is there.
+abbrev pub ReadsValue : {X : Type 0} → Said (Option (List ℕ)) → X → (List ℕ → Result X ReadError → Type 0) → Result X ReadError → Type 0
+ReadsValue (Err f) absent reads r = IsErrAnd r (λ e. fault_seen e ≡ f)
+ReadsValue (Ok None) absent reads r = r ≡ Ok absent
+ReadsValue (Ok (Some v)) absent reads r = reads v r
+
+-- So it is, unless memory is wanting.
+abbrev pub ReadsIf : {X : Type 0} → Said (Option (List ℕ)) → X → (List ℕ → Result X ReadError → Type 0) → Result X ReadError → Type 0
+ReadsIf said absent reads r = (r ≡ Err NoMemory) ⊎ ReadsValue said absent reads r

@@ -1,15 +1,15 @@
 // The commands of a script: what one line says.
 ghost use Rattle.std.specs.Prelude.{◌≡◌};
-ghost use Rattle.scripts.specs.Readings.{Reads, itself};
+ghost use Rattle.scripts.specs.Readings.{Reads, itself, fault_seen};
 ghost use Rattle.scripts.specs.Words.{words_of};
-ghost use Rattle.scripts.specs.Commands.{nothing_in, only_number, only_formula, only_algebra, only_slip, may_number, formula_codes, types_of, verb_of, arguments_of, meaning};
+ghost use Rattle.scripts.specs.Commands.{nothing_in, only_word, only_number, only_formula, only_algebra, only_slip, may_number, formula_codes, types_of, verb_of, arguments_of, meaning};
 ghost use Rattle.scripts.specs.Views.{types_seen, pair_seen, command_seen};
 
-use crate::errors::ReadError;
+use crate::errors::{ReadError, found_or};
 use crate::fields::{Codes, FieldSet, LineFields, check_fields, codes_in, read_fields, slip_in};
 use crate::names::{AlgebraName, TypeWord, read_algebra, read_type};
 use crate::numbers::{limited, read_number};
-use crate::words::next_word;
+use crate::words::{Words, next_word};
 use std::alloc::Global;
 
 /// What one line of a script says.
@@ -64,6 +64,7 @@ pub enum Verb {
 }
 
 /// The command that a word names.
+// No `FromStr`: its error could not hold the word, since it is handed no heap.
 fn verb_named(word: &str) -> Option<Verb>
     ensures { result ≡ verb_of word.now }
 {
@@ -95,14 +96,20 @@ fn no_more(heap: Global, text: &str) -> Result<(), ReadError>
     }
 }
 
+/// The only word of a text, or `missing` where there is none.
+fn only_word<'a>(heap: Global, text: &'a str, missing: ReadError) -> Result<&'a str, ReadError>
+    ensures { Reads (only_word (fault_seen missing) (words_of text.now)) (λ word. word.now) result }
+{
+    let (word, rest) = next_word(text).ok_or(missing)?;
+    no_more(heap, rest)?;
+    Ok(word)
+}
+
 /// Reads the only word of a text as a number.
 fn only_number(heap: Global, text: &str) -> Result<u64, ReadError>
     ensures { Reads (only_number (words_of text.now)) itself result }
 {
-    let Some((word, rest)) = next_word(text) else {
-        return Err(ReadError::MissingNumber);
-    };
-    no_more(heap, rest)?;
+    let word = only_word(heap, text, ReadError::MissingNumber)?;
     read_number(heap, word)
 }
 
@@ -110,18 +117,14 @@ fn only_number(heap: Global, text: &str) -> Result<u64, ReadError>
 fn only_formula(heap: Global, text: &str) -> Result<u32, ReadError>
     ensures { Reads (only_formula (words_of text.now)) itself result }
 {
-    let number = only_number(heap, text)?;
-    Ok(limited(number))
+    only_number(heap, text).map(limited)
 }
 
 /// Reads the only word of a text as an algebra.
 fn only_algebra(heap: Global, text: &str) -> Result<AlgebraName, ReadError>
     ensures { Reads (only_algebra (words_of text.now)) itself result }
 {
-    let Some((word, rest)) = next_word(text) else {
-        return Err(ReadError::MissingAlgebra);
-    };
-    no_more(heap, rest)?;
+    let word = only_word(heap, text, ReadError::MissingAlgebra)?;
     read_algebra(heap, word)
 }
 
@@ -149,9 +152,7 @@ fn may_number(heap: Global, text: &str) -> Result<Option<u64>, ReadError>
 fn formula_codes(heap: Global, text: &str) -> Result<(u32, Codes), ReadError>
     ensures { Reads (formula_codes (words_of text.now)) pair_seen result }
 {
-    let Some((word, rest)) = next_word(text) else {
-        return Err(ReadError::MissingNumber);
-    };
+    let (word, rest) = next_word(text).ok_or(ReadError::MissingNumber)?;
     let number = read_number(heap, word)?;
     check_fields(heap, FieldSet::OnlyCodes, rest)?;
     let codes = codes_in(heap, rest)?;
@@ -162,14 +163,9 @@ fn formula_codes(heap: Global, text: &str) -> Result<(u32, Codes), ReadError>
 fn read_types(heap: Global, algebra: AlgebraName, text: &str) -> Result<Vec<TypeWord>, ReadError>
     ensures { Reads (types_of algebra (words_of text.now)) types_seen result }
 {
-    let mut types = Vec::new(heap);
-    let mut left = text;
-    while let Some((word, rest)) = next_word(left) {
-        let read = read_type(heap, algebra, word)?;
-        types.push(read)?;
-        left = rest;
-    }
-    Ok(types)
+    Words::new(text)
+        .map(|word| read_type(heap, algebra, word))
+        .try_collect(heap)
 }
 
 /// Reads what follows the word that names a command.
@@ -217,8 +213,6 @@ pub fn read_command(heap: Global, algebra: AlgebraName, text: &str) -> Result<Co
     if word.starts_with('#') {
         return Ok(Command::Nothing);
     }
-    match verb_named(word) {
-        Some(verb) => read_arguments(heap, algebra, verb, rest),
-        None => Err(ReadError::NoCommand(String::from_str(heap, word)?)),
-    }
+    let verb = found_or(heap, verb_named(word), word, ReadError::NoCommand)?;
+    read_arguments(heap, algebra, verb, rest)
 }

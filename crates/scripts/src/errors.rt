@@ -1,8 +1,9 @@
 // Why a line of a script cannot be read.
 ghost use Rattle.std.specs.Prelude.{◌≡◌};
+ghost use Rattle.scripts.specs.Readings.{FoundOr};
 ghost use Rattle.scripts.specs.declared.errors.ReadError.TheVariants.{NoMemory};
 
-use std::alloc::{AllocError, AllocFailed};
+use std::alloc::{AllocError, AllocFailed, Global};
 
 /// Why a line of a script says no command; a word that is at fault is told.
 #[derive(Debug, Drop)]
@@ -38,6 +39,7 @@ pub enum ReadError {
 }
 
 /// An allocation that fails is want of memory.
+// By hand, since clauses name the error that a `?` makes of it.
 impl From<AllocError> for ReadError {
     ghost from_gives = { λ _ r. r ≡ NoMemory };
 
@@ -47,10 +49,27 @@ impl From<AllocError> for ReadError {
 }
 
 /// So is a value that found no place.
+// By hand for the same reason.
 impl<T: Drop> From<AllocFailed<T>> for ReadError {
     ghost from_gives = { λ _ r. r ≡ NoMemory };
 
     fn from(_error: AllocFailed<T>) -> ReadError {
         ReadError::NoMemory
+    }
+}
+
+/// What was looked for in a word, or else the error that tells what is wrong with the word.
+pub fn found_or<T, F: FnOnce(String) -> ReadError + Drop>(
+    heap: Global,
+    thing: Option<T>,
+    word: &str,
+    wrong: F,
+) -> Result<T, ReadError>
+    requires { F.IsAlwaysCallable wrong }
+    ensures { FoundOr thing word.now (λ text error. F.post wrong text error) result }
+{
+    match thing {
+        Some(thing) => Ok(thing),
+        None => Err(wrong(String::from_str(heap, word)?)),
     }
 }

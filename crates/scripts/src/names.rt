@@ -1,10 +1,10 @@
 // The names of algebras, base types, operators and kinds, and the words of types.
-ghost use Rattle.std.specs.Prelude.{◌≡◌};
+ghost use Rattle.std.specs.Prelude.{◌≡◌, ◌<◌, ◌^◌, length, map};
 ghost use Rattle.scripts.specs.Readings.{Reads, itself};
-ghost use Rattle.scripts.specs.Names.{algebra_of, place_in, operators, kinds, bases, algebra_said, operator_said, kind_said, base_said, type_of};
+ghost use Rattle.scripts.specs.Names.{algebra_of, place_in, or_number, bases, algebra_said, operator_said, kind_said, base_said, type_of};
 ghost use Rattle.scripts.specs.Views.{type_seen};
 
-use crate::errors::ReadError;
+use crate::errors::{ReadError, found_or};
 use crate::numbers::{limited, limited_all, number_of, read_rest};
 use std::alloc::Global;
 
@@ -23,6 +23,7 @@ pub struct TypeWord {
 }
 
 /// The algebra of a name, if it has one.
+// No `FromStr`: its error could not hold the word, since it is handed no heap.
 fn algebra_named(word: &str) -> Option<AlgebraName>
     ensures { result ≡ algebra_of word.now }
 {
@@ -33,56 +34,48 @@ fn algebra_named(word: &str) -> Option<AlgebraName>
     }
 }
 
-/// The number of the operator of a name.
-fn operator_named(word: &str) -> Option<u32>
-    ensures { result ≡ place_in operators 0 word.now }
+/// The names of the operators, in the order of their numbers.
+const OPERATORS: [&str; 9] = [
+    "add", "sub", "mul", "quo", "less", "and", "or", "not", "pick",
+];
+
+/// The names of the kinds of lines, in the order of their numbers.
+const KINDS: [&str; 8] = [
+    "literal",
+    "parameter",
+    "frame",
+    "operator",
+    "call",
+    "fold",
+    "append",
+    "reverse",
+];
+
+/// The place of a word in a list of names.
+fn place_in(names: &[&str], word: &str) -> Option<usize>
+    ensures { result ≡ place_in (map (λ name. name.now) names.now) 0 word.now }
 {
-    match word {
-        "add" => Some(0),
-        "sub" => Some(1),
-        "mul" => Some(2),
-        "quo" => Some(3),
-        "less" => Some(4),
-        "and" => Some(5),
-        "or" => Some(6),
-        "not" => Some(7),
-        "pick" => Some(8),
-        _ => None,
+    names.iter().position(|name| word == *name)
+}
+
+/// The number that a word says: its place in a list of names, or what it writes in digits.
+fn named_or_number(names: &[&str], word: &str) -> Option<u32>
+    requires { length names.now < 2 ^ 32 }
+    ensures { result ≡ or_number (place_in (map (λ name. name.now) names.now) 0 word.now) word.now }
+{
+    match place_in(names, word) {
+        Some(place) => Some(place as u32),
+        None => number_of(word).map(limited),
     }
 }
 
-/// The number of the kind of a name.
-fn kind_named(word: &str) -> Option<u32>
-    ensures { result ≡ place_in kinds 0 word.now }
-{
-    match word {
-        "literal" => Some(0),
-        "parameter" => Some(1),
-        "frame" => Some(2),
-        "operator" => Some(3),
-        "call" => Some(4),
-        "fold" => Some(5),
-        "append" => Some(6),
-        "reverse" => Some(7),
-        _ => None,
-    }
-}
-
-/// The number of the base type of a name in an algebra.
-fn base_named(algebra: AlgebraName, word: &str) -> Option<u32>
-    ensures { result ≡ place_in (bases algebra) 0 word.now }
+/// The names of the base types of an algebra, in the order of their numbers.
+fn bases(algebra: AlgebraName) -> [&'static str; 2]
+    ensures { map (λ name. name.now) result ≡ bases algebra }
 {
     match algebra {
-        AlgebraName::Counts => match word {
-            "count" => Some(0),
-            "flag" => Some(1),
-            _ => None,
-        },
-        AlgebraName::Amplitudes => match word {
-            "amplitude" => Some(0),
-            "flag" => Some(1),
-            _ => None,
-        },
+        AlgebraName::Counts => ["count", "flag"],
+        AlgebraName::Amplitudes => ["amplitude", "flag"],
     }
 }
 
@@ -90,58 +83,38 @@ fn base_named(algebra: AlgebraName, word: &str) -> Option<u32>
 pub fn read_algebra(heap: Global, word: &str) -> Result<AlgebraName, ReadError>
     ensures { Reads (algebra_said word.now) itself result }
 {
-    match algebra_named(word) {
-        Some(algebra) => Ok(algebra),
-        None => Err(ReadError::NoAlgebra(String::from_str(heap, word)?)),
-    }
+    found_or(heap, algebra_named(word), word, ReadError::NoAlgebra)
 }
 
 /// Reads a word as an operator, by its name or its number.
 pub fn read_operator(heap: Global, word: &str) -> Result<u32, ReadError>
     ensures { Reads (operator_said word.now) itself result }
 {
-    if let Some(place) = operator_named(word) {
-        return Ok(place);
-    }
-    match number_of(word) {
-        Some(number) => Ok(limited(number)),
-        None => Err(ReadError::NoOperator(String::from_str(heap, word)?)),
-    }
+    let number = named_or_number(&OPERATORS, word);
+    found_or(heap, number, word, ReadError::NoOperator)
 }
 
 /// Reads a word as a kind of line, by its name or its number.
 pub fn read_kind(heap: Global, word: &str) -> Result<u32, ReadError>
     ensures { Reads (kind_said word.now) itself result }
 {
-    if let Some(place) = kind_named(word) {
-        return Ok(place);
-    }
-    match number_of(word) {
-        Some(number) => Ok(limited(number)),
-        None => Err(ReadError::NoKind(String::from_str(heap, word)?)),
-    }
+    let number = named_or_number(&KINDS, word);
+    found_or(heap, number, word, ReadError::NoKind)
 }
 
 /// Reads a word as a base type, by its name in the algebra or its number.
 pub fn read_base(heap: Global, algebra: AlgebraName, word: &str) -> Result<u32, ReadError>
     ensures { Reads (base_said algebra word.now) itself result }
 {
-    if let Some(place) = base_named(algebra, word) {
-        return Ok(place);
-    }
-    match number_of(word) {
-        Some(number) => Ok(limited(number)),
-        None => Err(ReadError::NoBase(String::from_str(heap, word)?)),
-    }
+    let number = named_or_number(&bases(algebra), word);
+    found_or(heap, number, word, ReadError::NoBase)
 }
 
 /// Reads a word as a type: a base type and its axes in brackets.
 pub fn read_type(heap: Global, algebra: AlgebraName, word: &str) -> Result<TypeWord, ReadError>
     ensures { Reads (type_of algebra word.now) type_seen result }
 {
-    let Some((name, rest)) = word.split_once('[') else {
-        return Err(ReadError::NoType(String::from_str(heap, word)?));
-    };
+    let (name, rest) = found_or(heap, word.split_once('['), word, ReadError::NoType)?;
     let base = read_base(heap, algebra, name)?;
     let numbers = read_rest(heap, word, rest)?;
     let axes = limited_all(heap, numbers.as_slice())?;

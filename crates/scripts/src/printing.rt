@@ -6,6 +6,7 @@ use crate::errors::ReadError;
 use std::fmt;
 
 /// An error is printed in one line: what is wrong, and what was expected.
+// By hand, since a clause states the text, which a derive would not.
 impl fmt::Display for ReadError {
     ghost output = { λ e. Some (error_text e) };
 

@@ -15,7 +15,7 @@ pub enum Call {
     Entry,
 }
 
-/// What a call answers.
+/// What a call that is not refused answers.
 #[derive(Clone, Copy)]
 pub enum Answer {
     /// A slip, by its serial.
@@ -28,88 +28,106 @@ pub enum Answer {
     Done,
     /// What is known of a formula.
     Stated(Entry),
-    /// A refusal.
-    Refused(Refusal),
 }
 
-/// An answer beside the call that it answers.
+/// An answer or a refusal beside the call that it answers.
 #[derive(Clone, Copy)]
 pub struct Told {
     pub call: Call,
-    pub answer: Answer,
+    pub answer: Result<Answer, Refusal>,
 }
 
-impl Call {
-    /// The word by which a script names the call.
-    fn word(self) -> &'static str {
-        match self {
+/// A type of counts, printed as a script writes it.
+#[derive(Clone, Copy)]
+struct TypeText<'a>(&'a ArrayType);
+
+/// What is known of a formula, printed as a session tells it.
+#[derive(Clone, Copy)]
+pub(crate) struct EntryText<'a>(pub &'a Entry);
+
+/// A refusal, printed with its number, its line if it names one, and its reason.
+#[derive(Clone, Copy)]
+struct RefusalText(Refusal);
+
+/// A call is printed as the word by which a script names it.
+impl fmt::Display for Call {
+    fn fmt<W: fmt::Write>(&self, f: &mut fmt::Formatter<W>) -> fmt::Result {
+        let word = match self {
             Call::Open => "open",
             Call::Line => "line",
             Call::Enter => "enter",
             Call::Scrap => "scrap",
             Call::Withdraw => "withdraw",
             Call::Entry => "entry",
+        };
+        write!(f, "{word}")
+    }
+}
+
+impl fmt::Display for TypeText<'_> {
+    fn fmt<W: fmt::Write>(&self, f: &mut fmt::Formatter<W>) -> fmt::Result {
+        let base = if self.0.base == 0 { "count" } else { "flag" };
+        write!(f, "{base}[")?;
+        for i in 0..self.0.shape.rank() {
+            let comma = if i > 0 { "," } else { "" };
+            let axis = self.0.shape.axis(i);
+            write!(f, "{comma}{axis}")?;
+        }
+        write!(f, "]")
+    }
+}
+
+impl fmt::Display for EntryText<'_> {
+    fn fmt<W: fmt::Write>(&self, f: &mut fmt::Formatter<W>) -> fmt::Result {
+        write!(f, "parameters")?;
+        for of in self.0.parameters() {
+            write!(f, " {}", TypeText(of))?;
+        }
+        let mark = if self.0.withdrawn {
+            "withdrawn"
+        } else {
+            "in use"
+        };
+        write!(
+            f,
+            "; result {}; steps {}, room {}, depth {}; {mark}",
+            TypeText(&self.0.result),
+            self.0.steps,
+            self.0.room,
+            self.0.depth
+        )
+    }
+}
+
+impl fmt::Display for RefusalText {
+    fn fmt<W: fmt::Write>(&self, f: &mut fmt::Formatter<W>) -> fmt::Result {
+        let refusal = self.0;
+        let number = refusal.number();
+        match refusal.line() {
+            Some(line) => write!(f, "refused {number} at line {line} ({refusal})"),
+            None => write!(f, "refused {number} ({refusal})"),
         }
     }
 }
 
-/// A type of counts as a script writes it.
-fn write_type<W: fmt::Write>(of: ArrayType, f: &mut fmt::Formatter<W>) -> fmt::Result {
-    if of.base == 0 {
-        write!(f, "count[")?;
-    } else {
-        write!(f, "flag[")?;
-    }
-    for i in 0..of.shape.rank() {
-        let axis = of.shape.axis(i);
-        if i > 0 {
-            write!(f, ",")?;
+impl fmt::Display for Answer {
+    fn fmt<W: fmt::Write>(&self, f: &mut fmt::Formatter<W>) -> fmt::Result {
+        match self {
+            Answer::Slip(serial) => write!(f, "slip {serial}"),
+            Answer::Line(number) => write!(f, "{number}"),
+            Answer::Formula(number) => write!(f, "formula {number}"),
+            Answer::Done => write!(f, "done"),
+            Answer::Stated(entry) => write!(f, "{}", EntryText(entry)),
         }
-        write!(f, "{axis}")?;
-    }
-    write!(f, "]")
-}
-
-/// What is known of a formula as a session tells it.
-pub(crate) fn write_entry<W: fmt::Write>(entry: &Entry, f: &mut fmt::Formatter<W>) -> fmt::Result {
-    write!(f, "parameters")?;
-    for of in entry.parameters() {
-        write!(f, " ")?;
-        write_type(*of, f)?;
-    }
-    write!(f, "; result ")?;
-    write_type(entry.result, f)?;
-    let steps = entry.steps;
-    let room = entry.room;
-    let depth = entry.depth;
-    let mark = if entry.withdrawn {
-        "withdrawn"
-    } else {
-        "in use"
-    };
-    write!(f, "; steps {steps}, room {room}, depth {depth}; {mark}")
-}
-
-/// A refusal with its number, its line if it names one, and its reason.
-fn write_refusal<W: fmt::Write>(refusal: Refusal, f: &mut fmt::Formatter<W>) -> fmt::Result {
-    let number = refusal.number();
-    match refusal.line() {
-        Some(line) => write!(f, "refused {number} at line {line} ({refusal})"),
-        None => write!(f, "refused {number} ({refusal})"),
     }
 }
 
 impl fmt::Display for Told {
     fn fmt<W: fmt::Write>(&self, f: &mut fmt::Formatter<W>) -> fmt::Result {
-        let word = self.call.word();
-        write!(f, "{word}: ")?;
+        let call = self.call;
         match self.answer {
-            Answer::Slip(serial) => write!(f, "slip {serial}"),
-            Answer::Line(number) => write!(f, "{number}"),
-            Answer::Formula(number) => write!(f, "formula {number}"),
-            Answer::Done => write!(f, "done"),
-            Answer::Stated(entry) => write_entry(&entry, f),
-            Answer::Refused(refusal) => write_refusal(refusal, f),
+            Ok(answer) => write!(f, "{call}: {answer}"),
+            Err(refusal) => write!(f, "{call}: {}", RefusalText(refusal)),
         }
     }
 }

@@ -1,13 +1,13 @@
 // A session: a collection of formulas on counts, the slips that are held, and what was done.
-ghost use Rattle.std.specs.Prelude.{◌<◌, IfSome, vec_len};
+ghost use Rattle.std.specs.Prelude.{◌<◌, IfOk, vec_len};
 
-use super::answers::{Answer, Call, Told, write_entry};
+use super::answers::{Answer, Call, EntryText, Told};
 use super::troubles::Trouble;
 use collection::{Collection, Slip};
 use counts::Counts;
 use lines::{Line, ParameterType, Refusal};
 use scripts::TypeWord;
-use std::alloc::Global;
+use std::alloc::{AllocError, Global};
 use std::fmt;
 use typing::Entry;
 
@@ -35,119 +35,99 @@ impl Session {
     /// The answer of a call, which is counted.
     fn counted(&mut self, call: Call, answer: Result<Answer, Refusal>) -> Told {
         self.calls = self.calls.saturating_add(1);
-        match answer {
-            Ok(answer) => Told { call, answer },
-            Err(refusal) => {
-                self.refused = self.refused.saturating_add(1);
-                Told {
-                    call,
-                    answer: Answer::Refused(refusal),
-                }
-            }
+        if answer.is_err() {
+            self.refused = self.refused.saturating_add(1);
         }
+        Told { call, answer }
     }
 
     /// The place of the slip with this serial among those that are held, of the newest if none is named.
-    fn place_of(&self, serial: Option<u64>) -> Option<usize>
-        ensures { IfSome result (λ i. i < vec_len self.now.slips) }
+    fn place_of(&self, serial: Option<u64>) -> Result<usize, Trouble>
+        ensures { IfOk result (λ i. i < vec_len self.now.slips) }
     {
-        let count = self.slips.len();
-        let Some(wanted) = serial else {
-            return if count > 0 { Some(count - 1) } else { None };
-        };
-        for i in 0..count {
-            if u64::from(self.slips[i].serial()) == wanted {
-                return Some(i);
+        match serial {
+            Some(wanted) => self
+                .slips
+                .iter()
+                .position(|slip| u64::from(slip.serial()) == wanted)
+                .ok_or(Trouble::NotHeld(wanted)),
+            None => self.slips.len().checked_sub(1).ok_or(Trouble::NoneHeld),
+        }
+    }
+
+    /// Takes a slip out of those that are held.
+    fn take(&mut self, serial: Option<u64>) -> Result<Slip, Trouble> {
+        let place = self.place_of(serial)?;
+        Ok(self.slips.remove(place))
+    }
+
+    /// Holds a slip, and tells its serial; its draft is scrapped where memory is wanting.
+    fn hold(&mut self, slip: Slip) -> Result<u32, Trouble> {
+        let serial = slip.serial();
+        match self.slips.push(slip) {
+            Ok(()) => Ok(serial),
+            Err(back) => {
+                let _ = self.collection.scrap(back.value);
+                Err(Trouble::NoMemory(AllocError))
             }
         }
-        None
     }
 
     /// Opens a draft with parameters of these types, and holds its slip.
     pub fn open(&mut self, heap: Global, types: &[TypeWord]) -> Result<Told, Trouble> {
-        let mut parameters = Vec::new(heap);
-        for word in types {
-            parameters.push(ParameterType {
+        let parameters: Vec<ParameterType> = types
+            .iter()
+            .map(|word| ParameterType {
                 base: word.base,
                 shape: word.axes.as_slice(),
-            })?;
-        }
-        match self.collection.open(parameters.as_slice()) {
-            Ok(slip) => {
-                let serial = slip.serial();
-                match self.slips.push(slip) {
-                    Ok(()) => Ok(self.counted(Call::Open, Ok(Answer::Slip(serial)))),
-                    Err(back) => {
-                        let _ = self.collection.scrap(back.value);
-                        Err(Trouble::NoMemory)
-                    }
-                }
-            }
-            Err(refusal) => Ok(self.counted(Call::Open, Err(refusal))),
-        }
+            })
+            .collect(heap)?;
+        let answer = match self.collection.open(parameters.as_slice()) {
+            Ok(slip) => Ok(Answer::Slip(self.hold(slip)?)),
+            Err(refusal) => Err(refusal),
+        };
+        Ok(self.counted(Call::Open, answer))
     }
 
     /// Adds a line to the draft of a held slip.
     pub fn line(&mut self, serial: Option<u64>, line: &Line) -> Result<Told, Trouble> {
-        let Some(place) = self.place_of(serial) else {
-            return Err(Trouble::NotHeld(serial));
-        };
-        let answer = match self.collection.line(&self.slips[place], line) {
-            Ok(number) => Ok(Answer::Line(number)),
-            Err(refusal) => Err(refusal),
-        };
-        Ok(self.counted(Call::Line, answer))
+        let place = self.place_of(serial)?;
+        let answer = self.collection.line(&self.slips[place], line);
+        Ok(self.counted(Call::Line, answer.map(Answer::Line)))
     }
 
     /// Enters the draft of a held slip.
     pub fn enter(&mut self, serial: Option<u64>) -> Result<Told, Trouble> {
-        let Some(place) = self.place_of(serial) else {
-            return Err(Trouble::NotHeld(serial));
-        };
-        let slip = self.slips.remove(place);
-        let answer = match self.collection.enter(slip) {
-            Ok(number) => {
-                self.formulas = self.formulas.saturating_add(1);
-                Ok(Answer::Formula(number))
-            }
-            Err(refusal) => Err(refusal),
-        };
-        Ok(self.counted(Call::Enter, answer))
+        let slip = self.take(serial)?;
+        let answer = self.collection.enter(slip);
+        if answer.is_ok() {
+            self.formulas = self.formulas.saturating_add(1);
+        }
+        Ok(self.counted(Call::Enter, answer.map(Answer::Formula)))
     }
 
     /// Scraps the draft of a held slip.
     pub fn scrap(&mut self, serial: Option<u64>) -> Result<Told, Trouble> {
-        let Some(place) = self.place_of(serial) else {
-            return Err(Trouble::NotHeld(serial));
-        };
-        let slip = self.slips.remove(place);
-        let answer = match self.collection.scrap(slip) {
-            Ok(()) => Ok(Answer::Done),
-            Err(refusal) => Err(refusal),
-        };
-        Ok(self.counted(Call::Scrap, answer))
+        let slip = self.take(serial)?;
+        let answer = self.collection.scrap(slip);
+        Ok(self.counted(Call::Scrap, answer.map(|()| Answer::Done)))
     }
 
     /// Withdraws a number.
     pub fn withdraw(&mut self, number: u32) -> Told {
-        let answer = match self.collection.withdraw(number) {
-            Ok(()) => Ok(Answer::Done),
-            Err(refusal) => Err(refusal),
-        };
-        self.counted(Call::Withdraw, answer)
+        let answer = self.collection.withdraw(number);
+        self.counted(Call::Withdraw, answer.map(|()| Answer::Done))
     }
 
     /// Tells what is known of a number.
     pub fn entry(&mut self, number: u32) -> Told {
         let mut entry = Entry::NONE;
-        let answer = match self.collection.entry(number, &mut entry) {
-            Ok(()) => Ok(Answer::Stated(entry)),
-            Err(refusal) => Err(refusal),
-        };
-        self.counted(Call::Entry, answer)
+        let answer = self.collection.entry(number, &mut entry);
+        self.counted(Call::Entry, answer.map(|()| Answer::Stated(entry)))
     }
 
     /// Scraps the slips that are still held, and ends the session.
+    // A loop over `pop`, since a slip is no `Drop`, which a `for` over the vector would ask.
     pub fn end(self) {
         let Session {
             mut collection,
@@ -176,8 +156,7 @@ impl fmt::Display for Session {
         for number in 0..formulas {
             let mut entry = Entry::NONE;
             if self.collection.entry(number, &mut entry).is_ok() {
-                write!(f, "\nformula {number}: ")?;
-                write_entry(&entry, f)?;
+                write!(f, "\nformula {number}: {}", EntryText(&entry))?;
             }
         }
         Ok(())

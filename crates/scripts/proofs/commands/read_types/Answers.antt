@@ -1,24 +1,15 @@
--- The type of one word more is read.
-use Rattle.std.proofs.Common.{map, vec_items, sym, ap, ◌∙◌, rules}
-use Rattle.std.proofs.lemmas.List.{map_push}
+-- The types that were collected are those of the words.
+use Rattle.std.proofs.Common.{ap, ◌∙◌, subst, rules}
 use Rattle.scripts.specs.Names.{type_of}
 use Rattle.scripts.specs.Words.{words_of}
+use Rattle.scripts.specs.Readings.{Reads}
 use Rattle.scripts.specs.Commands.{types_of}
-use Rattle.scripts.specs.Views.{type_seen}
-use Rattle.scripts.proofs.Runs.{after, after_more}
+use Rattle.scripts.specs.Views.{type_seen, types_seen}
+use Rattle.scripts.proofs.Collected.{collected, words_given}
 use Rattle.scripts.proofs.commands.read_types.Goals as goal
 
-pub loop-word-preserved : goal.loop-word-preserved
-loop-word-preserved c =
+pub returns : goal.returns
+returns c =
     let a = c.args.algebra in
-    let word = c.in-Some.word.now in
-    let rest = c.in-Some.rest.now in
-    let read = c.in_ok-read.read in
-    let items = vec_items c.loop-word.types in
-    let left = types_of a (words_of rest) in (
-      search rules,
-      c.loop-word.invariant.1
-          ∙ ap (λ ws. after (map type_seen items) (types_of a ws)) c.in-Some.ensures.words
-          ∙ after_more (map type_seen items) (type_of a word) (type_seen read) left c.in_ok-read.ensures
-          ∙ ap (λ l. after l left) (sym (ap (map type_seen) c.in_ok-push.ensures.items ∙ map_push type_seen items read)),
-    )
+    let read = collected _ (λ w. words_of w.left.now) _ words_given _ _ (type_of a) type_seen (λ w r q h. search rules) c.map.result c.try_collect.result tt c.map.ensures.closure c.try_collect.ensures.ran c.try_collect.ensures.err in
+    subst (λ ws. Reads (types_of a (words_of ws)) types_seen c.try_collect.result) (ap (λ w. w.left.now) c.map.ensures.source ∙ c.new.ensures) read

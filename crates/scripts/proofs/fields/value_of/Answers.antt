@@ -1,11 +1,9 @@
 -- The text before the first `=` is the name, and that behind it the value.
 use Rattle.std.proofs.Common.{cond, Some, None, sym, ap, ◌∙◌, lit<}
-use Rattle.std.proofs.lemmas.Slice.Eq.{bytes_eq-Decides}
 use Rattle.std.proofs.lemmas.Option.{MatchOption-at_some, MatchOption-at_none}
-use Rattle.std.proofs.lemmas.Bool.Decides.{not_from_Decides}
 use Rattle.scripts.specs.Fields.{value_from}
 use Rattle.scripts.specs.Views.{text_seen}
-use Rattle.scripts.proofs.Places.{cut_split, differs}
+use Rattle.scripts.proofs.Places.{cut_split}
 use Rattle.scripts.proofs.fields.value_of.Goals as goal
 
 pub returns-in_err-given : goal.returns-in_err-given
