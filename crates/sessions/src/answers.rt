@@ -68,9 +68,8 @@ impl fmt::Display for TypeText<'_> {
     fn fmt<W: fmt::Write>(&self, f: &mut fmt::Formatter<W>) -> fmt::Result {
         let base = if self.0.base == 0 { "count" } else { "flag" };
         write!(f, "{base}[")?;
-        for i in 0..self.0.shape.rank() {
+        for (i, axis) in self.0.shape.axes().iter().enumerate() {
             let comma = if i > 0 { "," } else { "" };
-            let axis = self.0.shape.axis(i);
             write!(f, "{comma}{axis}")?;
         }
         write!(f, "]")

@@ -7,7 +7,7 @@ use collection::{Collection, Slip};
 use counts::Counts;
 use lines::{Line, ParameterType, Refusal};
 use scripts::TypeWord;
-use std::alloc::{AllocError, Global};
+use std::alloc::Global;
 use std::fmt;
 use typing::Entry;
 
@@ -61,19 +61,7 @@ impl Session {
         Ok(self.slips.remove(place))
     }
 
-    /// Holds a slip, and tells its serial; its draft is scrapped where memory is wanting.
-    fn hold(&mut self, slip: Slip) -> Result<u32, Trouble> {
-        let serial = slip.serial();
-        match self.slips.push(slip) {
-            Ok(()) => Ok(serial),
-            Err(back) => {
-                let _ = self.collection.scrap(back.value);
-                Err(Trouble::NoMemory(AllocError))
-            }
-        }
-    }
-
-    /// Opens a draft with parameters of these types, and holds its slip.
+    /// Opens a draft with parameters of these types, and holds its slip, for which there is room before.
     pub fn open(&mut self, heap: Global, types: &[TypeWord]) -> Result<Told, Trouble> {
         let parameters: Vec<ParameterType> = types
             .iter()
@@ -82,8 +70,13 @@ impl Session {
                 shape: word.axes.as_slice(),
             })
             .collect(heap)?;
+        self.slips.reserve(1)?;
         let answer = match self.collection.open(parameters.as_slice()) {
-            Ok(slip) => Ok(Answer::Slip(self.hold(slip)?)),
+            Ok(slip) => {
+                let serial = slip.serial();
+                self.slips.push(slip).unwrap();
+                Ok(Answer::Slip(serial))
+            }
             Err(refusal) => Err(refusal),
         };
         Ok(self.counted(Call::Open, answer))
