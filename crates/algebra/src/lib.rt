@@ -57,6 +57,7 @@ impl<const N: u8> Stated for Number<N> {
 }
 
 /// An algebra of samples: base types with sets of codes, and operators on them.
+// Base types, operators and codes go by number here: a line names them by number, whatever the algebra, and each algebra has its own.
 pub trait Algebra {
     /// The value that stands for a sample.
     type Atom: Copy;

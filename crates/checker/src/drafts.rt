@@ -10,6 +10,9 @@ use shapes::ArrayType;
 use typing::{Parameters, Typed};
 
 /// A draft of at most 64 lines, if one is open.
+// Lines and codes stand in tables of fixed size, with their number beside them, and are changed in place without a heap; so whether a draft
+// is open is a flag, since an Option would be written anew as a whole at each open. The bounds on `height` and `width` stand in the contracts:
+// a ghost field for them would have to be proved again in every definition that makes a draft out of another.
 #[derive(Drop)]
 pub struct Draft {
     pub opened: bool,

@@ -5,6 +5,7 @@ use lines::Fields;
 use typing::Typed;
 
 /// A line as it was handed over: its fields, and where its codes stand among those of its draft or formula.
+// Codes are found by number, since they stand in one table of fixed size, without a heap.
 #[derive(Clone, Copy)]
 pub struct Given {
     pub fields: Fields,

@@ -15,6 +15,8 @@ pub struct Extent {
 }
 
 /// At most 64 formulas with 1,024 lines and 4,096 codes in all.
+// The tables are of fixed size, with the number of what they hold beside them, and are changed in place without a heap. Entries and extents
+// stand apart, since typing is lent the entries as one slice.
 #[derive(Drop)]
 pub struct Tables {
     pub entries: [Entry; 64],
