@@ -62,6 +62,7 @@ fn perform(
     first: bool,
     command: Command,
 ) -> Result<Option<Told>, Trouble> {
+    // A match, since each command holds values of its own, which a table of closures could not take out of it.
     let told = match command {
         Command::Nothing => return Ok(None),
         Command::Algebra(_) if !first => return Err(Trouble::LateAlgebra),

@@ -177,6 +177,7 @@ fn read_arguments(
 ) -> Result<Command, ReadError>
     ensures { Reads (arguments_of algebra verb (words_of text.now)) command_seen result }
 {
+    // A match, since the commands are a closed list and each reads other arguments: closures in a table would say the same with more words.
     match verb {
         Verb::Algebra => Ok(Command::Algebra(only_algebra(heap, text)?)),
         Verb::Store => Ok(Command::Store(only_number(heap, text)?)),

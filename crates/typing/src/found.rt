@@ -65,6 +65,7 @@ impl Items {
 }
 
 /// What typing finds of a line: its type, the number of its cells, the items of a cell, and how each operand is lifted.
+// There is a place for each of four operands, since what was found stands in tables of fixed size, without a heap.
 #[derive(Clone, Copy)]
 pub struct Typed {
     pub array: ArrayType,
