@@ -35,27 +35,6 @@ pub struct Signature {
     pub unit: Option<u64>,
 }
 
-/// A number that a type states, so that a constant of the type is known wherever it is read.
-pub trait Stated {
-    ghost number: { ℕ };
-
-    /// The number.
-    fn get(self) -> u8
-        ensures { result ≡ number };
-}
-
-/// The type that states `N`.
-#[derive(Clone, Copy)]
-pub struct Number<const N: u8>;
-
-impl<const N: u8> Stated for Number<N> {
-    ghost number = { N };
-
-    fn get(self) -> u8 {
-        N
-    }
-}
-
 /// An algebra of samples: base types with sets of codes, and operators on them.
 // Base types, operators and codes go by number here: a line names them by number, whatever the algebra, and each algebra has its own.
 pub trait Algebra {
@@ -65,15 +44,16 @@ pub trait Algebra {
     /// Why an operator gives nothing.
     type Fault: Copy;
 
-    /// The type that states the number of base types, 1 to 4.
-    type Bases: Stated + Copy;
+    /// The number of base types, 1 to 4.
+    const BASES: u8;
 
-    /// The type that states the number of operators, 1 to 16.
-    type Operators: Stated + Copy;
+    /// The number of operators, 1 to 16.
+    const OPERATORS: u8;
 
-    const BASES: Self::Bases;
+    // The same two numbers, for clauses.
+    ghost BASES: { ℕ };
 
-    const OPERATORS: Self::Operators;
+    ghost OPERATORS: { ℕ };
 
     ghost meaning: { Meaning };
 
@@ -115,7 +95,7 @@ pub trait Algebra {
 
     ghost lawful: { Denotes meaning sample };
 
-    ghost bases_stated: { Self.Bases.Stated.number ≡ meaning.bases };
+    ghost bases_stated: { BASES ≡ meaning.bases };
 
-    ghost operators_stated: { Self.Operators.Stated.number ≡ meaning.operators };
+    ghost operators_stated: { OPERATORS ≡ meaning.operators };
 }

@@ -1,7 +1,7 @@
 // The algebra of counts: 32-bit two's complement numbers and flags.
 #![tactic(auto)]
 
-ghost use Rattle.std.specs.Prelude.{◌≡◌, ◌≢◌, Some};
+ghost use Rattle.std.specs.Prelude.{◌≡◌, ◌≢◌, Some, refl};
 ghost use Rattle.remora.specs.Algebras.{applied, applying};
 ghost use Rattle.algebra.specs.Promises.{samples, answered};
 ghost use Rattle.counts.specs.Tables.{counts as table, sum, difference, product, quotient};
@@ -13,7 +13,7 @@ ghost use Rattle.std.proofs.Common.{rules};
 
 use Value::{Count, Flag};
 use algebra::Operands::{One, Three, Two};
-use algebra::{Algebra, Number, Operands, Signature};
+use algebra::{Algebra, Operands, Signature};
 use std::error::Error;
 use std::fmt;
 
@@ -164,13 +164,13 @@ impl Algebra for Counts {
 
     type Fault = Fault;
 
-    type Bases = Number<2>;
+    const BASES: u8 = 2;
 
-    type Operators = Number<9>;
+    const OPERATORS: u8 = 9;
 
-    const BASES: Number<2> = Number;
+    ghost BASES = { 2 };
 
-    const OPERATORS: Number<9> = Number;
+    ghost OPERATORS = { 9 };
 
     ghost meaning = { table };
 
@@ -180,9 +180,9 @@ impl Algebra for Counts {
 
     ghost lawful = { Lawful.lawful };
 
-    ghost bases_stated = { Prim.search rules };
+    ghost bases_stated = { refl };
 
-    ghost operators_stated = { Prim.search rules };
+    ghost operators_stated = { refl };
 
     // Base types go by number here as in `read` and `base_of`, since a signature speaks of those of any algebra.
     fn signature(op: u8) -> Option<Signature> {

@@ -3,7 +3,7 @@ ghost use Rattle.std.specs.Prelude.{◌≡◌, ◌≤◌, length, take};
 ghost use Rattle.lines.specs.Lines.{line_of, InOrder, padded};
 
 use super::given::{Kind, Line};
-use algebra::{Algebra, Stated};
+use algebra::Algebra;
 use shapes::Shape;
 
 /// The fields of a line that is in order, of whose operands the first `count` count.
@@ -45,11 +45,10 @@ impl Fields {
     pub fn of<A: Algebra>(line: &Line) -> Option<Fields>
         ensures { InOrder A.meaning (line_of line.now) result }
     {
-        let bases = A::BASES.get();
         let kind = Kind::try_from(line.kind).ok()?;
         let shape = Shape::checked(line.shape)?;
         let count = line.operands.len();
-        if line.base < u32::from(bases) && count <= 4 && line.unnamed_empty(kind) {
+        if line.base < u32::from(A::BASES) && count <= 4 && line.unnamed_empty(kind) {
             Some(Fields {
                 kind,
                 base: line.base,

@@ -3,7 +3,7 @@ ghost use Rattle.std.specs.Prelude.{◌≡◌, ◌≤◌, length, take};
 ghost use Rattle.lines.specs.Lines.{type_of, types_given};
 ghost use Rattle.typing.specs.Parameters.{KnownType, KnownTypes};
 
-use algebra::{Algebra, Stated};
+use algebra::Algebra;
 use lines::ParameterType;
 use shapes::{ArrayType, Shape};
 
@@ -19,9 +19,8 @@ pub struct Parameters {
 fn known_type<A: Algebra>(given: &ParameterType) -> Option<ArrayType>
     ensures { KnownType A.meaning (type_of given.now) result }
 {
-    let bases = A::BASES.get();
     let shape = Shape::checked(given.shape)?;
-    if given.base < u32::from(bases) {
+    if given.base < u32::from(A::BASES) {
         Some(ArrayType {
             base: given.base,
             shape,
