@@ -99,12 +99,6 @@ module _ (m : Meaning) (es : List Entry) (d : Draft) (before after : List Row) (
       (subst (λ (rs : List Row). CheckedAs m es (types_of (take d.parameters.count d.parameters.all)) d.codes rs r after f) before-is
       (subst (λ (ts : List ArrayType). CheckedAs m es (types_of ts) d.codes before r after f) own_is c))
 
-  -- a line was refused
-  pub check_refused : (x : Refusal) → CheckedAs m es (types_of own) d.codes before (Err x) after f → DraftChecked m es d (Err x) (with_rows d all)
-  check_refused x c =
-      let here = moved (Err x) c.1 c in
-      draft_refused m es d all f (front_length d.rows after d.height (tall c.1) few) x here.0 here.1
-
   -- all lines were typed
   pub check_done : (u : Unit {0}) (none : Row) (r : Result Entry Refusal) → 0 < d.height → CheckedAs m es (types_of own) d.codes before (Ok u) after f
       → LimitedBy d.parameters (get_or all (d.height - 1) none).found.array f r → DraftChecked m es d r (with_rows d all)

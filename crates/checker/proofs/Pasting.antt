@@ -1,43 +1,9 @@
--- Lists with others written over a part of them, and parts of lists.
-use Rattle.std.proofs.Common.{◌≡◌, ℕ, zero, suc, ◌+◌, ◌-◌, ◌<◌, ◌≤◌, min, ◌⊎◌, List, [], ◌++◌, length, take, drop, sym, refl, ap, ◌∙◌, inl, inr, arith, length-append, length-drop, length-take-le}
-use borrow.Rule.Slice.PartMut.{put_mid}
-use Rattle.std.proofs.lemmas.List.{take_all, take-take, take_at, drop_all, drop_at, drop-take}
-use Rattle.std.proofs.lemmas.Slice.{put_mid-paste}
-use Rattle.std.proofs.lemmas.List.Edits.{paste_all}
-use Rattle.std.proofs.lemmas.Bool.{cases_lt}
+-- Lists with others written over a part of them.
+use Rattle.std.proofs.Common.{◌≡◌, ℕ, ◌+◌, ◌≤◌, List, ◌++◌, length, take, drop, sym, refl, ap, ◌∙◌, arith, length-append, length-drop, length-take-le}
+use Rattle.std.proofs.lemmas.List.{take-take, take_at, drop_at, drop-take}
 use Rattle.checker.specs.Changes.{pasted}
 
--- what was copied into a part stands in the place of that part
-pub pasted_is : {X : Type 0} (xs ys zs : List X) (n : ℕ) → ys ≡ zs → put_mid n (n + length zs - n) xs ys ≡ pasted xs n zs
-pasted_is xs ys zs n e = put_mid-paste n (n + length zs - n) xs ys zs (length zs) e (omega arith) refl ∙ paste_all xs n zs (length zs) refl
-
 module _ {X : Type 0} where
-  -- nothing can be taken of nothing
-  take_none : (k : ℕ) → ◌≡◌ {A = List X} (take k []) []
-  take_none zero = refl
-  take_none (suc k) = refl
-
-  -- a part that is cut to what there is
-  pub part_is : (xs : List X) (start n a b : ℕ) → a ≡ min start (length xs) → b ≡ min n (length xs - a) → take (a + b - a) (drop a xs) ≡ take n (drop start xs)
-  part_is xs start n a b from to = go (cases_lt start (length xs))
-    where
-      some : start < length xs → a ≡ start → (n < length xs - start) ⊎ (length xs - start ≤ n) → take (a + b - a) (drop a xs) ≡ take n (drop start xs)
-      some h e (inl k) = ap (λ (i : ℕ). take (a + b - a) (drop i xs)) e ∙ ap (λ (i : ℕ). take i (drop start xs)) (omega arith)
-      some h e (inr k) =
-          ap (λ (i : ℕ). take (a + b - a) (drop i xs)) e ∙ take_all (a + b - a) (drop start xs) (omega (arith, length-drop start xs)) ∙ sym (take_all n (drop start xs) (omega (arith, length-drop start xs)))
-
-      go : (start < length xs) ⊎ (length xs ≤ start) → take (a + b - a) (drop a xs) ≡ take n (drop start xs)
-      go (inl h) = some h (omega arith) (cases_lt n (length xs - start))
-      go (inr h) = ap (take (a + b - a)) (drop_all a xs (omega arith)) ∙ take_none (a + b - a) ∙ sym (ap (take n) (drop_all start xs h) ∙ take_none n)
-
-  -- the first n, or as many as there are
-  pub take_clamped : (xs : List X) (n k : ℕ) → k ≡ min n (length xs) → take k xs ≡ take n xs
-  take_clamped xs n k e = go (cases_lt n (length xs))
-    where
-      go : (n < length xs) ⊎ (length xs ≤ n) → take k xs ≡ take n xs
-      go (inl h) = ap (λ (i : ℕ). take i xs) (omega arith)
-      go (inr h) = take_all k xs (omega arith) ∙ sym (take_all n xs h)
-
   -- lists that begin alike have the same parts there
   pub same_part : (xs ys : List X) (n start k : ℕ) → take n xs ≡ take n ys → start + k ≤ n → take k (drop start xs) ≡ take k (drop start ys)
   same_part xs ys n start k e h =

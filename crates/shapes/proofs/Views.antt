@@ -1,15 +1,11 @@
 -- The axes of a shape: those it is made of, and those of a frame and a cell put together.
-use Rattle.std.proofs.Common.{◌≡◌, ℕ, ◌+◌, ◌-◌, List, ◌++◌, length, drop, replicate, sym, refl, ap, ◌∙◌, arith, length-append}
+use Rattle.std.proofs.Common.{◌≡◌, ℕ, ◌+◌, ◌-◌, List, ◌++◌, length, drop, replicate, sym, ap, ◌∙◌, arith, length-append}
 use Rattle.std.proofs.lemmas.List.{take_at, drop-drop, drop_at, drop-replicate, append_assoc}
 use Rattle.std.proofs.lemmas.Slice.{put_mid-paste}
 use Rattle.std.proofs.lemmas.List.Edits.{paste_all}
 use borrow.Rule.Slice.PartMut.{put_mid}
 use Rattle.shapes.specs.declared.Shape.{Shape}
-use Rattle.shapes.specs.Axes.{dims, shape_of}
-
--- A shape made of axes has these axes.
-pub dims_shape_of : (xs : List ℕ) → dims (shape_of xs) ≡ xs
-dims_shape_of xs = take_at xs (replicate (4 - length xs) 0) (length xs) refl
+use Rattle.shapes.specs.Axes.{shape_of}
 
 -- A shape is made of axes if it holds them, then zeros.
 pub made_of : (xs ys : List ℕ) (n : ℕ) → n ≡ length xs → ys ≡ xs ++ drop n (replicate 4 0) → ◌≡◌ {A = Shape} (record { axes = ys; rank = n }) (shape_of xs)

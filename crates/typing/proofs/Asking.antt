@@ -1,5 +1,5 @@
 -- The questions on operands as tests of all their items, and the principal frame as it is joined together.
-use Rattle.std.proofs.Common.{◌≡◌, ℕ, ◌+◌, ◌<◌, Bool, true, false, ◌&&◌, eqb, ltb, List, [], ◌∷◌, ◌++◌, map, length, get_or, take, drop, sym, refl, ap, ◌∙◌, zero, suc, ◌≤◌, arith}
+use Rattle.std.proofs.Common.{◌≡◌, ℕ, ◌+◌, ◌<◌, Bool, true, false, ◌&&◌, eqb, ltb, List, [], ◌∷◌, ◌++◌, map, length, get_or, take, drop, sym, refl, ap, ◌∙◌}
 use Rattle.std.specs.List.{list_all}
 use Rattle.std.specs.Prelude.{zip}
 use Rattle.std.proofs.lemmas.List.{length-map, map-append, take_more, take-append-drop}
@@ -43,16 +43,6 @@ fits_all test types (w ∷ ws) [] = refl
 fits_all test types (w ∷ ws) (o ∷ os) = ap (λ (b : Bool). test (type_at types o) (array_type w) && b) (fits_all test types ws os)
 
 -- ---- the type of an operand
-
-pub type_within : (ts : List ArrayType) (o : ℕ) (d : ArrayType) → o < length ts → array_type (get_or ts o d) ≡ type_at (types_of ts) o
-type_within [] o d h = absurd (omega arith)
-type_within (t ∷ ts) zero d h = refl
-type_within (t ∷ ts) (suc o) d h = type_within ts o d (omega arith)
-
-pub type_beyond : (ts : List ArrayType) (o : ℕ) → length ts ≤ o → theory.no_type ≡ type_at (types_of ts) o
-type_beyond [] o h = refl
-type_beyond (t ∷ ts) zero h = absurd (omega arith)
-type_beyond (t ∷ ts) (suc o) h = type_beyond ts o (omega arith)
 
 -- ---- frames
 

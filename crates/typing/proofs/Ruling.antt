@@ -1,6 +1,6 @@
 -- The rule for each kind of lines, from what was asked and found of it.
 use Rattle.std.proofs.Common.{◌≡◌, ℕ, zero, suc, ◌+◌, ◌<◌, ◌≤◌, Bool, true, false, not, ◌&&◌, ◌||◌, eqb, ltb, ◌⊎◌, List, [], ◌∷◌, ◌++◌, length, get_or, take, drop, is_some, Some, None, Ok, Err, Option, Result, sym, refl, ap, ◌∙◌, subst, inl, inr, mul-one, arith}
-use Rattle.std.proofs.lemmas.List.{length-take, length-take-le}
+use Rattle.std.proofs.lemmas.List.{length-take-le}
 use Rattle.std.proofs.lemmas.Bool.{both_ways, cases_lt, and_from, and_right, lt-ltb, le-leb, eq-eqb, ne_eqb}
 use Rattle.remora.specs.Algebras.{Meaning}
 use Rattle.remora.specs.Formulas as theory
@@ -32,9 +32,6 @@ use Rattle.typing.proofs.Repeating.{allowed_parts, allowed_back, small_is, plann
 
 -- ---- operands and base types
 
-pub few_operands : (n : ℕ) (os : List ℕ) → length os ≡ 4 → length (take n os) ≤ 4
-few_operands n os h = let e = length-take n os in omega arith
-
 scalars_length : (bs : List ℕ) → length (scalars bs) ≡ length bs
 scalars_length [] = refl
 scalars_length (b ∷ bs) = ap suc (scalars_length bs)
@@ -45,11 +42,6 @@ pub known_at : (es : List Entry) (g : ℕ) (d : Entry) → g < length es → ent
 known_at [] g d h = absurd (omega arith)
 known_at (e ∷ es) zero d h = refl
 known_at (e ∷ es) (suc g) d h = known_at es g d (omega arith)
-
-pub usable_at_lem : (es : List Entry) (g : ℕ) (d : Entry) → g < length es → not (get_or es g d).withdrawn ≡ usable_in es g
-usable_at_lem [] g d h = absurd (omega arith)
-usable_at_lem (e ∷ es) zero d h = refl
-usable_at_lem (e ∷ es) (suc g) d h = usable_at_lem es g d (omega arith)
 
 -- ---- the plan of an application
 

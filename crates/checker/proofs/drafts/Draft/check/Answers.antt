@@ -1,18 +1,7 @@
 -- The lines are typed and the forecasts held against the limits, or the first no is told.
 use Rattle.std.proofs.Common.{◌≡◌, ℕ, ◌-◌, length, take, ap, arith, rules}
-use Rattle.std.proofs.lemmas.Result.{err_from_is_err_and}
-use Rattle.checker.proofs.Drafting.{check_refused, check_done}
+use Rattle.checker.proofs.Drafting.{check_done}
 use Rattle.checker.proofs.drafts.Draft.check.Goals as goal
-
-pub returns-in_err-type_rows : goal.returns-in_err-type_rows
-returns-in_err-type_rows g c =
-    let q = err_from_is_err_and c.from_residual.result c.from_residual.ensures.1 in
-    let d = c.args.self.now in
-    let many : length d.rows ≡ 64 = search rules in
-    let front : take (d.height - 0) d.rows ≡ take d.height d.rows = ap (λ (n : ℕ). take n d.rows) (omega arith) in
-    let own = c.as_slice.ensures.all in
-    rw (q.1, q.2) (check_refused g.A.Algebra.meaning c.args.formulas.now d (take (d.height - 0) d.rows) c.type_rows.new.rows c.as_slice.result.now c.type_rows.new.forecast
-    front own (omega arith) _ c.in_err-type_rows.ensures)
 
 pub returns : goal.returns
 returns g c =
