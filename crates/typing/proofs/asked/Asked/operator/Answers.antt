@@ -19,10 +19,10 @@ returns-in-One g c =
     let few : length (take f.count f.operands) ≤ 4 = omega (arith, ap length c.operands.ensures.all, c.operands.ensures.few) in
     let said = c.in-Some.ensures in
     let bases : c.in-One.a ∷ [] ≡ (m.operator f.function).operands = ap listed (sym c.in-One.is) ∙ ap (λ (o : Operator). o.operands) said.1 in
-    let wanted : array_type c.scalar-in-One.result ∷ [] ≡ scalars (c.in-One.a ∷ []) = cc in
-    operator_ruled m (length es) (known_in es) (usable_in es) (types_of x.parameters.now) (types_of x.types.now) (line_with f []) (take f.count f.operands) _ _ c.args.self.now.line c.applied-in-One.result
+    let wanted : array_type c.scalar.result ∷ [] ≡ scalars (c.in-One.a ∷ []) = cc in
+    operator_ruled m (length es) (known_in es) (usable_in es) (types_of x.parameters.now) (types_of x.types.now) (line_with f []) (take f.count f.operands) _ _ c.args.self.now.line c.applied.result
     (wanted ∙ ap scalars bases) refl (c.scalar-cell.ensures ∙ ap (λ (o : Operator). shaped o.result []) said.1) few c.args.self.now.earlier said.0
-    (sym (ap length c.operands.ensures.all) ∙ c.if-operands-count.false ∙ c.count.ensures ∙ ap (λ (o : Operator). length o.operands) said.1) c.applied-in-One.ensures
+    (sym (ap length c.operands.ensures.all) ∙ c.if-operands-count.false ∙ c.count.ensures ∙ ap (λ (o : Operator). length o.operands) said.1) c.applied.ensures
 
 pub returns-in-Two : goal.returns-in-Two
 returns-in-Two g c =
