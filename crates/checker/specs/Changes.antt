@@ -1,5 +1,5 @@
 -- What the functions of the draft and the tables leave.
-use Rattle.std.specs.Prelude.{ℕ, ◌+◌, true, false, List, [], ◌++◌, length, take, drop, replicate, slice_index_or, slice_set}
+use Rattle.std.specs.Prelude.{ℕ, ◌+◌, true, false, List, [], ◌++◌, length, take, drop, replicate, slice_index_or, slice_set, Some, None}
 use Rattle.lines.specs.declared.fields.Fields.{Fields}
 use Rattle.lines.specs.declared.given.Kind.TheVariants.{Literal}
 use Rattle.shapes.specs.declared.ArrayType.{ArrayType}
@@ -39,7 +39,7 @@ blank = row_with (record { kind = Literal; base = 0; shape = record { axes = rep
 
 -- No draft was opened yet.
 abbrev pub no_draft : Draft
-no_draft = record { opened = false; serial = 0; parameters = none; rows = replicate 64 blank; height = 0; codes = replicate 4096 0; width = 0 }
+no_draft = record { serial = None; parameters = none; rows = replicate 64 blank; height = 0; codes = replicate 4096 0; width = 0 }
 
 -- What stands where there is no formula.
 abbrev pub unknown : Entry
@@ -53,16 +53,16 @@ no_tables = record { entries = replicate 64 unknown; extents = replicate 64 (rec
 
 -- A draft that was opened.
 abbrev pub begun : Draft → ℕ → Parameters → Draft
-begun d serial ps = record { opened = true; serial = serial; parameters = ps; rows = d.rows; height = 0; codes = d.codes; width = 0 }
+begun d serial ps = record { serial = Some serial; parameters = ps; rows = d.rows; height = 0; codes = d.codes; width = 0 }
 
 -- A draft with one more line.
 abbrev pub grown : Draft → Fields → List ℕ → Draft
 grown d f cs =
-    record { opened = d.opened; serial = d.serial; parameters = d.parameters; rows = slice_set d.rows d.height (row_with f d.width (length cs)); height = d.height + 1; codes = pasted d.codes d.width cs; width = d.width + length cs }
+    record { serial = d.serial; parameters = d.parameters; rows = slice_set d.rows d.height (row_with f d.width (length cs)); height = d.height + 1; codes = pasted d.codes d.width cs; width = d.width + length cs }
 
 -- No draft.
 abbrev pub dropped : Draft → Draft
-dropped d = record { opened = false; serial = d.serial; parameters = d.parameters; rows = d.rows; height = 0; codes = d.codes; width = 0 }
+dropped d = record { serial = None; parameters = d.parameters; rows = d.rows; height = 0; codes = d.codes; width = 0 }
 
 -- ---- the tables
 

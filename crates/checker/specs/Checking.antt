@@ -97,7 +97,7 @@ refusal_of E ps (refused_at q k) = Some (refused q (Some k))
 
 -- The draft with other lines in place of its own.
 abbrev pub with_rows : Draft → List Row → Draft
-with_rows d rs = record { opened = d.opened; serial = d.serial; parameters = d.parameters; rows = rs; height = d.height; codes = d.codes; width = d.width }
+with_rows d rs = record { serial = d.serial; parameters = d.parameters; rows = rs; height = d.height; codes = d.codes; width = d.width }
 
 -- The forecasts of a formula, by those of its lines, are within the limits; what is then known of the formula.
 abbrev pub LimitedBy : Parameters → ArrayType → Forecast → Result Entry Refusal → Type 0

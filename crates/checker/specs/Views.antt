@@ -1,5 +1,5 @@
 -- The draft and the tables as the theory's draft and formulas.
-use Rattle.std.specs.Prelude.{ℕ, cond, List, [], ◌∷◌, take, drop}
+use Rattle.std.specs.Prelude.{ℕ, cond, List, [], ◌∷◌, take, drop, Some, None, Option}
 use Rattle.remora.specs.Formulas as theory
 use Rattle.remora.specs.Machine as machine
 use Rattle.remora.specs.Calls as calls
@@ -27,9 +27,14 @@ abbrev pub plans_in : List ℕ → List Row → List machine.Plan
 plans_in cs [] = []
 plans_in cs (r ∷ rs) = planned (line_in cs r.given) r.found r.offset ∷ plans_in cs rs
 
+-- A draft of this serial, if it has one, with these parameters and lines.
+abbrev pub shown : Option ℕ → List theory.ArrayType → List theory.Line → calls.Draft
+shown None ps ls = calls.shut
+shown (Some n) ps ls = calls.opened n ps ls
+
 -- The draft.
 abbrev pub draft_of : Draft → calls.Draft
-draft_of d = cond d.opened (calls.opened d.serial (types_of (take d.parameters.count d.parameters.all)) (lines_in d.codes (take d.height d.rows))) calls.shut
+draft_of d = shown d.serial (types_of (take d.parameters.count d.parameters.all)) (lines_in d.codes (take d.height d.rows))
 
 -- A formula with its lines and codes, of which these are its own.
 abbrev pub kept_with : Entry → List Row → List ℕ → calls.Kept

@@ -9,14 +9,12 @@ use lines::Fields;
 use shapes::ArrayType;
 use typing::{Parameters, Typed};
 
-/// A draft of at most 64 lines, if one is open.
-// Lines and codes stand in tables of fixed size, with their number beside them, and are changed in place without a heap; so whether a draft
-// is open is a flag, since an Option would be written anew as a whole at each open. The bounds on `height` and `width` stand in the contracts:
-// a ghost field for them would have to be proved again in every definition that makes a draft out of another.
+/// A draft of at most 64 lines, which is open if it has a serial.
+// Lines and codes stand in tables of fixed size, with their number beside them, and are changed in place without a heap. The bounds on `height`
+// and `width` stand in the contracts: a ghost field for them would have to be proved again in every definition that makes a draft out of another.
 #[derive(Drop)]
 pub struct Draft {
-    pub opened: bool,
-    pub serial: u32,
+    pub serial: Option<u32>,
     pub parameters: Parameters,
     pub rows: [Row; 64],
     pub height: u32,
@@ -30,8 +28,7 @@ impl Draft {
         ensures { result ≡ no_draft }
     {
         Draft {
-            opened: false,
-            serial: 0,
+            serial: None,
             parameters: Parameters::NONE,
             rows: [Row::BLANK; 64],
             height: 0,
@@ -44,7 +41,7 @@ impl Draft {
     pub fn has(&self, serial: u32) -> bool
         ensures { result ≡ slip_fits (draft_of self.now) serial }
     {
-        self.opened && serial == self.serial
+        Some(serial) == self.serial
     }
 
     /// The types of the parameters.
@@ -74,8 +71,7 @@ impl Draft {
     pub fn begin(&mut self, serial: u32, parameters: Parameters)
         ensures { self.new ≡ begun self.old serial parameters }
     {
-        self.opened = true;
-        self.serial = serial;
+        self.serial = Some(serial);
         self.parameters = parameters;
         self.height = 0;
         self.width = 0;
@@ -106,7 +102,7 @@ impl Draft {
     pub fn drop_lines(&mut self)
         ensures { self.new ≡ dropped self.old }
     {
-        self.opened = false;
+        self.serial = None;
         self.height = 0;
         self.width = 0;
     }

@@ -26,6 +26,7 @@ pub struct Forecast {
 }
 
 /// What is known of formula `number`, nothing if it was not given.
+// As in the theory no Option, since a line that calls such a number was refused before.
 pub fn known(formulas: &[Entry], number: u32) -> Entry
     ensures { entry_of result ≡ known_in formulas.now number }
 {

@@ -55,7 +55,7 @@ module _ (m : Meaning) (d : Draft) (t : Tables) (s : sound d t ≡ true) where
       → serve m (state_with n d t) S (enter k)
       ≡ choose (not (none ls) && ltb t.count 64) (serve_verdict m (state_with n d t) S (record { parameters = ps; lines = ls }) (verdict m es ps [] ls)) (reply (refused 6 None) (with_draft (state_with n d t) calls.shut) S)
   enter_is n k h S =
-      let here = draft_open d (slip_open d k h) in
+      let here = draft_open d k (slip_open d k h) in
       choose_yes (slip_fits (draft_of d) k) _ _ h
       ∙ ap (λ (z : calls.Draft). choose (not (none (draft_lines z)) && ltb (length (formulas_of t)) 64)
       (serve_verdict m (state_with n d t) S (draft_formula z) (judge m (length (formulas_of t)) (entry_at (state_with n d t)) (usable_at (state_with n d t)) (draft_parameters z) [] (draft_lines z)))

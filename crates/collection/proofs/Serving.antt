@@ -1,7 +1,7 @@
 -- From what a call answers and leaves to the promise of the call.
-use Rattle.std.proofs.Common.{◌≡◌, ℕ, zero, suc, ◌+◌, ◌<◌, Bool, true, false, cond, ◌&&◌, ltb, leb, List, [], ◌∷◌, ◌++◌, length, get_or, take, set, Some, None, Result, sym, refl, ap, ◌∙◌, subst, arith, length-take-le}
+use Rattle.std.proofs.Common.{◌≡◌, ℕ, zero, suc, ◌+◌, ◌<◌, Bool, true, false, cond, ◌&&◌, ltb, leb, List, [], ◌∷◌, ◌++◌, length, get_or, take, set, Some, None, Option, Result, sym, refl, ap, ◌∙◌, subst, arith, length-take-le}
 use Rattle.std.proofs.lemmas.List.{get_or-take, get_or-map}
-use Rattle.std.proofs.lemmas.Bool.{and_parts, ltb-true}
+use Rattle.std.proofs.lemmas.Bool.{and_parts, ltb-true, eqb-true}
 use Rattle.remora.specs.Algebras.{Meaning, Sample, Formed}
 use Rattle.remora.specs.Formulas as theory
 use Rattle.remora.specs.Machine.{choose}
@@ -20,7 +20,7 @@ use Rattle.typing.specs.Plans.{entry_of, mark_of}
 use Rattle.checker.specs.declared.drafts.Draft.{Draft}
 use Rattle.checker.specs.declared.tables.Tables.{Tables}
 use Rattle.typing.specs.declared.parameters.Parameters.{Parameters}
-use Rattle.checker.specs.Views.{draft_of, lines_in, kept_in, formulas_of}
+use Rattle.checker.specs.Views.{draft_of, shown, lines_in, kept_in, formulas_of}
 use Rattle.checker.specs.Changes.{begun, grown, dropped, withdrawn_at, marked, absent}
 use Rattle.typing.specs.Parameters.{KnownTypes}
 use Rattle.checker.specs.Sound.{sound}
@@ -69,17 +69,17 @@ module _ (m : Meaning) (formed : Formed m) (n : ℕ) (d : Draft) (t : Tables) (p
 
 -- ---- line
 
--- a draft whose slip was shown is open
-pub slip_open : (d : Draft) (k : ℕ) → slip_fits (draft_of d) k ≡ true → d.opened ≡ true
-slip_open d k = go d.opened (types_of (take d.parameters.count d.parameters.all)) (lines_in d.codes (take d.height d.rows))
+-- a draft whose slip was shown is open and has its serial
+pub slip_open : (d : Draft) (k : ℕ) → slip_fits (draft_of d) k ≡ true → d.serial ≡ Some k
+slip_open d k = go d.serial (types_of (take d.parameters.count d.parameters.all)) (lines_in d.codes (take d.height d.rows))
   where
-    go : (b : Bool) (ps : List theory.ArrayType) (ls : List theory.Line) → slip_fits (cond b (opened d.serial ps ls) calls.shut) k ≡ true → b ≡ true
-    go true ps ls h = refl
-    go false ps ls h = h
+    go : (o : Option ℕ) (ps : List theory.ArrayType) (ls : List theory.Line) → slip_fits (shown o ps ls) k ≡ true → o ≡ Some k
+    go (Some n) ps ls h = ap Some (sym (eqb-true k n h))
+    go None ps ls h = cc
 
 -- and is this draft
-pub draft_open : (d : Draft) → d.opened ≡ true → draft_of d ≡ opened d.serial (types_of (take d.parameters.count d.parameters.all)) (lines_in d.codes (take d.height d.rows))
-draft_open d h = ap (λ (b : Bool). cond b (opened d.serial (types_of (take d.parameters.count d.parameters.all)) (lines_in d.codes (take d.height d.rows))) calls.shut) h
+pub draft_open : (d : Draft) (k : ℕ) → d.serial ≡ Some k → draft_of d ≡ opened k (types_of (take d.parameters.count d.parameters.all)) (lines_in d.codes (take d.height d.rows))
+draft_open d k h = ap (λ (o : Option ℕ). shown o (types_of (take d.parameters.count d.parameters.all)) (lines_in d.codes (take d.height d.rows))) h
 
 -- as many entries as extents
 pub taken : (d : Draft) (t : Tables) → Parts d t → length (take t.count t.entries) ≡ length (take t.count t.extents)
@@ -105,11 +105,11 @@ abbrev pub space_for : Draft → Tables → ℕ → Bool
 space_for d t k = leb (d.height + 1) 64 && (leb (t.height + d.height + 1) 1024 && leb (t.width + d.width + k) 4096)
 
 -- is the space that the theory asks for
-space_is : (n : ℕ) (d : Draft) (t : Tables) (l : theory.Line) → sound d t ≡ true → d.opened ≡ true → has_space (state_with n d t) l ≡ space_for d t (length l.codes)
-space_is n d t l s h =
+space_is : (n k : ℕ) (d : Draft) (t : Tables) (l : theory.Line) → sound d t ≡ true → d.serial ≡ Some k → has_space (state_with n d t) l ≡ space_for d t (length l.codes)
+space_is n k d t l s h =
     let p = parts d t s in
     let long = p.long in
-    let e = draft_open d h in
+    let e = draft_open d k h in
     let ls : List theory.Line = lines_in d.codes (take d.height d.rows) in
     let height : length (draft_lines (draft_of d)) ≡ d.height = ap (λ (x : calls.Draft). length (draft_lines x)) e ∙ lines_length d.codes (take d.height d.rows) ∙ length-take-le d.height d.rows (let f = p.draft.few in omega arith) in
     let width : codes_in (draft_lines (draft_of d)) ≡ d.width = ap (λ (x : calls.Draft). codes_in (draft_lines x)) e ∙ lines_codes d.codes d.width (take d.height d.rows) (let f = p.codes in omega arith) p.draft.inside ∙ p.draft.total in
@@ -126,7 +126,7 @@ module _ (m : Meaning) (formed : Formed m) (n : ℕ) (d : Draft) (t : Tables) (k
 
   module _ (s : sound d t ≡ true) (h : slip_fits (draft_of d) k ≡ true) where
     space : has_space (state_with n d t) l ≡ space_for d t (length l.codes)
-    space = space_is n d t l s (slip_open d k h)
+    space = space_is n k d t l s (slip_open d k h)
 
     -- there is no space
     pub line_full : space_for d t (length l.codes) ≡ false → Serves m (state_with n d t) (line k l) (refused 4 None) (state_with n d t)
@@ -143,15 +143,15 @@ module _ (m : Meaning) (formed : Formed m) (n : ℕ) (d : Draft) (t : Tables) (k
     line_done x e f o is =
         let p = parts d t s in
         let long = p.long in
-        let here = draft_open d (slip_open d k h) in
+        let here = draft_open d k (slip_open d k h) in
         let old : List theory.Line = lines_in d.codes (take d.height d.rows) in
         let room = and_parts (leb (d.height + 1) 64) _ f in
         let few : d.height < 64 = ltb-true d.height 64 (ap (λ (i : ℕ). leb i 64) one ∙ room.0) in
         let lines_are : lines_in (grown d x l.codes).codes (take (d.height + 1) (grown d x l.codes).rows) ≡ old ++ l ∷ [] =
         lines_grown d.rows d.height d.codes d.width x l.codes (omega arith) (let g = p.codes in omega arith) p.draft.inside ∙ ap (λ (z : theory.Line). old ++ z ∷ []) o.1 in
         let after : draft_of (grown d x l.codes) ≡ calls.added (draft_of d) l =
-        ap (λ (b : Bool). cond b (opened d.serial (types_of (take d.parameters.count d.parameters.all)) (lines_in (grown d x l.codes).codes (take (d.height + 1) (grown d x l.codes).rows))) calls.shut) (slip_open d k h)
-        ∙ ap (opened d.serial (types_of (take d.parameters.count d.parameters.all))) lines_are ∙ sym (ap (λ (z : calls.Draft). calls.added z l) here) in
+        ap (λ (o : Option ℕ). shown o (types_of (take d.parameters.count d.parameters.all)) (lines_in (grown d x l.codes).codes (take (d.height + 1) (grown d x l.codes).rows))) (slip_open d k h)
+        ∙ ap (opened k (types_of (take d.parameters.count d.parameters.all))) lines_are ∙ sym (ap (λ (z : calls.Draft). calls.added z l) here) in
         let height : length (draft_lines (draft_of d)) ≡ d.height = ap (λ (z : calls.Draft). length (draft_lines z)) here ∙ lines_length d.codes (take d.height d.rows) ∙ length-take-le d.height d.rows (omega arith) in
         serves m formed (state_with n d t) (line k l) (number d.height) (state_with n e t)
         (λ S. choose_yes (slip_fits (draft_of d) k) _ _ h ∙ choose_yes (has_space (state_with n d t) l) _ _ (space ∙ f) ∙ choose_yes (in_order m l) _ _ o.0

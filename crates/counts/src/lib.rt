@@ -246,17 +246,17 @@ mod tests {
     use super::*;
     use std::test::Fail;
 
-    // The code of what the operator of a number gives for two counts, or the fault.
-    fn of_number(op: u8, a: u32, b: u32) -> Result<u64, Fault> {
-        let value = <Counts as Algebra>::apply(
-            op,
-            Operands::Two(Value::Count(a), Value::Count(b)),
-        )?;
-        Ok(<Counts as Algebra>::code_of(value))
+    // The code of what the operator of a number gives for two counts, or the cause of the fault.
+    fn of_number(op: u8, a: u32, b: u32) -> Result<u64, u8> {
+        let operands = Operands::Two(Value::Count(a), Value::Count(b));
+        match <Counts as Algebra>::apply(op, operands) {
+            Ok(value) => Ok(<Counts as Algebra>::code_of(value)),
+            Err(fault) => Err(<Counts as Algebra>::cause_of(fault)),
+        }
     }
 
     // The same of an operator.
-    fn of_counts(op: Operator, a: u32, b: u32) -> Result<u64, Fault> {
+    fn of_counts(op: Operator, a: u32, b: u32) -> Result<u64, u8> {
         of_number(u8::from(op), a, b)
     }
 
@@ -270,15 +270,15 @@ mod tests {
             of_counts(Operator::Quo, 2147483648, 4294967295),
             Ok(2147483648)
         );
-        assert_eq!(rt; of_counts(Operator::Quo, 7, 0), Err(Fault::DivisionByZero));
+        assert_eq!(rt; of_counts(Operator::Quo, 7, 0), Err(1));
         assert_eq!(rt; of_counts(Operator::Less, 4294967295, 0), Ok(1));
     }
 
     #[test]
     fn operators_refuse_other_operands(rt: HostRuntime) {
-        assert_eq!(rt; of_counts(Operator::And, 1, 1), Err(Fault::Misused));
-        assert_eq!(rt; of_counts(Operator::Not, 1, 1), Err(Fault::Misused));
-        assert_eq!(rt; of_number(9, 1, 1), Err(Fault::Misused));
+        assert_eq!(rt; of_counts(Operator::And, 1, 1), Err(0));
+        assert_eq!(rt; of_counts(Operator::Not, 1, 1), Err(0));
+        assert_eq!(rt; of_number(9, 1, 1), Err(0));
     }
 
     #[test]

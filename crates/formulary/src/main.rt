@@ -21,6 +21,7 @@ enum Failure {
 }
 
 /// What a trace is read from.
+// No Option, since each of the two has a name and is read in its own way.
 #[derive(Drop)]
 enum Source {
     File(String),

@@ -31,6 +31,7 @@ enum Failure {
 }
 
 /// The codes that a command gives, out of the script or out of the file that it names.
+// The runtime goes to each function that reads or prints, as the library has it.
 fn codes_of(rt: &HostRuntime, codes: Codes) -> Result<Vec<u64>, Trouble> {
     match codes {
         Codes::Given(codes) => Ok(codes),

@@ -7,7 +7,7 @@ use algebra::Algebra;
 use shapes::Shape;
 
 /// The fields of a line that is in order, of whose operands the first `count` count.
-// The operands are kept in place, with their number beside them: fields are copied into tables of fixed size, without a heap.
+// The operands are kept in place, with their number beside them, as the axes of a shape are and for the same reasons.
 #[derive(Clone, Copy)]
 pub struct Fields {
     pub kind: Kind,

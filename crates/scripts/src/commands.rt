@@ -64,7 +64,7 @@ pub enum Verb {
 }
 
 /// The command that a word names.
-// No `FromStr`: its error could not hold the word, since it is handed no heap.
+// An Option, since a `FromStr` would need an error of its own, which nothing reads.
 fn verb_named(word: &str) -> Option<Verb>
     ensures { result ≡ verb_of word.now }
 {

@@ -1,5 +1,6 @@
 // Session scripts: reading one line of a script into a command.
 #![tactic(auto)]
+// The heap goes to each function that allocates, as the library has it; a struct for it and the text would be made anew for each part of a text.
 
 mod commands;
 mod errors;

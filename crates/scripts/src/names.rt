@@ -23,7 +23,7 @@ pub struct TypeWord {
 }
 
 /// The algebra of a name, if it has one.
-// No `FromStr`: its error could not hold the word, since it is handed no heap.
+// An Option, since a `FromStr` would need an error of its own, which nothing reads.
 fn algebra_named(word: &str) -> Option<AlgebraName>
     ensures { result ≡ algebra_of word.now }
 {

@@ -10,7 +10,8 @@ ghost use Rattle.shapes.specs.Equality.{same_equiv};
 /// Up to four axes.
 #[derive(Clone, Copy)]
 pub struct Shape {
-    // The axes are kept in place, with their number beside them: shapes stand in tables of fixed size, without a heap.
+    // The axes are kept in place, with their number beside them: shapes are copied and stand in tables of fixed size, without a heap. One generic
+    // type for axes, operands and parameters would hold an array of a type parameter, of whose size calls would owe a bound each time.
     axes: [u32; 4],
     rank: u8,
 }

@@ -1,4 +1,4 @@
-// Printing: a summary one figure to a line, and an error in one line.
+// Printing: a summary one figure to a line, and an error in one line. Each `Display` is written by hand, since a clause names its text.
 ghost use Rattle.std.specs.Prelude.{Some};
 ghost use Rattle.traces.specs.Prints.{count_text, extreme_text, mean_text, summary_text, error_text};
 

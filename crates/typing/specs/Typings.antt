@@ -1,7 +1,8 @@
 -- Types of the code as types of the theory.
-use Rattle.std.specs.Prelude.{◌≡◌, ℕ, true, false, List, [], ◌∷◌, ◌++◌, map, Some, None, Ok, Err, Option, Result}
-use Rattle.remora.specs.Shapes.{allowed, agree, principal}
-use Rattle.remora.specs.Questions.{Question, first_no, bases_fit, cells_fit, frames}
+use Rattle.std.specs.Prelude.{◌≡◌, ℕ, true, false, ◌&&◌, List, [], ◌∷◌, ◌++◌, map, length, get_or, take, drop, Some, None, Ok, Err, Option, Result, ◌==◌, nat_le, nat_lt, slice_index_or}
+use Rattle.remora.specs.Shapes.{size, allowed, agree, principal}
+use Rattle.remora.specs.Algebras.{Meaning}
+use Rattle.remora.specs.Questions.{Question, first_no, earlier, bases_fit, cells_fit, frames, in_set, same_base, same_shape}
 use Rattle.remora.specs.Calls.{Answer, refused}
 use Rattle.shapes.specs.declared.Shape.{Shape}
 use Rattle.remora.specs.Formulas as theory
@@ -53,3 +54,24 @@ shape_asked s = (13, allowed s) ∷ []
 -- The type of an array with cells of this type in this frame, or the no of question 13.
 abbrev pub Spread : List ℕ → theory.ArrayType → ℕ → Result ArrayType Refusal → Type 0
 Spread p cell line r = Judged (shape_asked (p ++ cell.shape)) (λ t. array_type t ≡ theory.shaped cell.base (p ++ cell.shape)) line r
+
+-- The type of a literal, or the first no on it.
+abbrev pub LiteralJudged : Meaning → ℕ → List ℕ → List ℕ → ℕ → Result ArrayType Refusal → Type 0
+LiteralJudged m base s cs line r = Judged ((8, (length cs == size s) && in_set m.holds base cs) ∷ shape_asked s) (λ t. array_type t ≡ theory.shaped base s) line r
+
+-- The type of a parameter line, or the first no on it.
+abbrev pub ParameterJudged : List theory.ArrayType → ℕ → ℕ → Result ArrayType Refusal → Type 0
+ParameterJudged ps k line r = Judged ((7, nat_lt k (length ps)) ∷ shape_asked (get_or ps k theory.no_type).shape) (λ t. array_type t ≡ slice_index_or ps k theory.no_type) line r
+
+-- The questions of a frame line with a frame of so many axes.
+abbrev pub frame_asked : List theory.ArrayType → ℕ → List ℕ → ℕ → List ℕ → List Question
+frame_asked types base s rank os =
+    (7, earlier types os)
+    ∷ (8, nat_le rank (length s) && length os == size (take rank s))
+    ∷ (9, same_base types base os)
+    ∷ (10, same_shape types (drop rank s) os)
+    ∷ shape_asked s
+
+-- The type of a frame line, or the first no on it.
+abbrev pub FrameJudged : List theory.ArrayType → ℕ → List ℕ → ℕ → List ℕ → ℕ → Result ArrayType Refusal → Type 0
+FrameJudged types base s rank os line r = Judged (frame_asked types base s rank os) (λ t. array_type t ≡ theory.shaped base s) line r

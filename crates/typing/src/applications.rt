@@ -32,6 +32,7 @@ pub fn spread(frame: Shape, cell: ArrayType, line: u32) -> Result<ArrayType, Ref
     }
 }
 
+// The cell of the result and the items stand apart as parameters: the items are those of an operand's cell.
 impl Application<'_> {
     /// The principal frame of the operands, or the refusal of question 9, 10 or 11.
     pub fn framed(&self, line: u32) -> Result<Shape, Refusal>

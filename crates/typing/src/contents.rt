@@ -26,6 +26,7 @@ pub fn has_codes<A: Algebra>(base: u32, codes: &[u64]) -> bool
 }
 
 /// Whether each operand has this base type.
+// Without the cells of an `Application`, since the parts of a frame line have none that are wanted of them.
 pub fn parts_of_base(types: &[ArrayType], base: u32, operands: &[u32]) -> bool
     ensures { result ≡ same_base (types_of types.now) base operands.now }
 {

@@ -12,9 +12,9 @@ ghost use Rattle.typing.specs.Typings.{types_of};
 ghost use Rattle.typing.specs.Plans.{RuledAs, AskedOf, Applied, Folded, Appended, items_in, entry_of, known_in, usable_in};
 
 use super::asked::Asked;
-use super::contents::{has_codes, parts_of_base, parts_of_shape};
 use super::found::{Context, Entry, Items, Lift, Typed};
-use super::operands::{Application, all_earlier, is_typed, type_at};
+use super::operands::{Application, all_earlier, type_at};
+use super::types;
 use algebra::{Algebra, Operands, Signature};
 use lines::{Fields, Refusal};
 use shapes::{ArrayType, Shape};
@@ -27,19 +27,9 @@ pub(crate) fn literal<A: Algebra>(
 ) -> Result<Typed, Refusal>
     ensures { (x : InContext) → RuledAs A.meaning x a_literal (line_with fields.now codes.now) line result }
 {
-    let shape = fields.shape;
-    let size = shape.size();
-    if codes.len() as u128 != size || !has_codes::<A>(fields.base, codes) {
-        return Err(Refusal::BadContents { line });
-    }
-    if !shape.allowed() {
-        return Err(Refusal::ShapeNotAllowed { line });
-    }
+    let array = types::literal::<A>(fields.base, fields.shape, codes, line)?;
     Ok(Typed {
-        array: ArrayType {
-            base: fields.base,
-            shape,
-        },
+        array,
         ..Typed::NONE
     })
 }
@@ -48,15 +38,9 @@ pub(crate) fn literal<A: Algebra>(
 pub(crate) fn parameter(context: &Context, fields: &Fields, line: u32) -> Result<Typed, Refusal>
     ensures { (m : Meaning) → RuledAs m context.now a_parameter (line_with fields.now []) line result }
 {
-    if !is_typed(context.parameters, fields.function) {
-        return Err(Refusal::BadFunction { line });
-    }
-    let given = type_at(context.parameters, fields.function);
-    if !given.shape.allowed() {
-        return Err(Refusal::ShapeNotAllowed { line });
-    }
+    let array = types::parameter(context.parameters, fields.function, line)?;
     Ok(Typed {
-        array: given,
+        array,
         ..Typed::NONE
     })
 }
@@ -117,62 +101,6 @@ fn led(axis: u32, shape: Shape) -> Shape
     }
 }
 
-/// What is found of an append of cells of this type and cells of `more` items, or the refusal of question 9, 10, 11 or 13.
-fn appended(
-    types: &[ArrayType],
-    first: ArrayType,
-    more: u32,
-    operands: &[u32],
-    line: u32,
-) -> Result<Typed, Refusal>
-    ensures { Appended (types_of types.now) (array_type first) more operands.now line result }
-{
-    let items = items_of(first.shape);
-    let second = ArrayType {
-        base: first.base,
-        shape: led(more, first.shape),
-    };
-    let cell = ArrayType {
-        base: first.base,
-        shape: led(items.number.saturating_add(more), first.shape),
-    };
-    Application {
-        types,
-        wanted: &[first, second],
-        operands,
-    }
-    .applied(cell, items, line)
-}
-
-/// What is found of a fold of cells of this type by an operator with this unit, or the refusal of question 9, 10, 11, 12 or 13.
-fn folded(
-    types: &[ArrayType],
-    wanted: ArrayType,
-    unit: Option<u64>,
-    operands: &[u32],
-    line: u32,
-) -> Result<Typed, Refusal>
-    ensures { Folded (types_of types.now) (array_type wanted) unit operands.now line result }
-{
-    let cells = [wanted];
-    let application = Application {
-        types,
-        wanted: &cells,
-        operands,
-    };
-    let frame = application.framed(line)?;
-    let items = items_of(wanted.shape);
-    match unit {
-        None if items.number == 0 => return Err(Refusal::NoUnit { line }),
-        _ => {}
-    }
-    let cell = ArrayType {
-        base: wanted.base,
-        shape: wanted.shape.back(1),
-    };
-    application.over(frame, cell, items, line)
-}
-
 impl<'a> Asked<'a> {
     /// The line, if its operands name earlier lines.
     pub(crate) fn of(context: &'a Context<'a>, fields: &'a Fields, line: u32) -> Option<Asked<'a>>
@@ -201,36 +129,67 @@ impl<'a> Asked<'a> {
         .applied(cell, items, self.line)
     }
 
+    /// What is found of an append of cells of this type and cells of `more` items, or the refusal of question 9, 10, 11 or 13.
+    fn appended(&self, first: ArrayType, more: u32) -> Result<Typed, Refusal>
+        ensures { Appended (types_of self.now.context.now.types.now) (array_type first) more (line_with self.now.fields.now []).operands self.now.line result }
+    {
+        let items = items_of(first.shape);
+        let second = ArrayType {
+            base: first.base,
+            shape: led(more, first.shape),
+        };
+        let cell = ArrayType {
+            base: first.base,
+            shape: led(items.number.saturating_add(more), first.shape),
+        };
+        self.applied(&[first, second], cell, items)
+    }
+
+    /// What is found of a fold of cells of this type by an operator with this unit, or the refusal of question 9, 10, 11, 12 or 13.
+    fn folded(&self, wanted: ArrayType, unit: Option<u64>) -> Result<Typed, Refusal>
+        ensures { Folded (types_of self.now.context.now.types.now) (array_type wanted) unit (line_with self.now.fields.now []).operands self.now.line result }
+    {
+        let line = self.line;
+        let cells = [wanted];
+        let application = Application {
+            types: self.context.types,
+            wanted: &cells,
+            operands: self.fields.operands(),
+        };
+        let frame = application.framed(line)?;
+        let items = items_of(wanted.shape);
+        match unit {
+            None if items.number == 0 => return Err(Refusal::NoUnit { line }),
+            _ => {}
+        }
+        let cell = ArrayType {
+            base: wanted.base,
+            shape: wanted.shape.back(1),
+        };
+        application.over(frame, cell, items, line)
+    }
+
     /// What is found of a frame line, or the refusal of question 8, 9, 10 or 13.
     pub(crate) fn framing(&self) -> Result<Typed, Refusal>
         ensures { (m : Meaning) → RuledAs m self.now.context.now a_frame (line_with self.now.fields.now []) self.now.line result }
     {
-        let line = self.line;
-        let types = self.context.types;
         let operands = self.fields.operands();
         let shape = self.fields.shape;
-        let base = self.fields.base;
-        let rank = self.fields.function as usize;
-        let frame = shape.front(rank);
-        if rank > shape.rank() || operands.len() as u128 != frame.size() {
-            return Err(Refusal::BadContents { line });
-        }
-        if !parts_of_base(types, base, operands) {
-            return Err(Refusal::WrongBase { line });
-        }
-        let cell = shape.back(rank);
-        if !parts_of_shape(types, cell, operands) {
-            return Err(Refusal::NotItsCell { line });
-        }
-        if !shape.allowed() {
-            return Err(Refusal::ShapeNotAllowed { line });
-        }
+        let rank = self.fields.function;
+        let array = types::framing(
+            self.context.types,
+            self.fields.base,
+            shape,
+            rank,
+            operands,
+            self.line,
+        )?;
         let whole = Lift {
             repeats: 1,
-            size: cell.small_size(),
+            size: shape.back(rank as usize).small_size(),
         };
         Ok(Typed {
-            array: ArrayType { base, shape },
+            array,
             cells: operands.len() as u32,
             items: Items::NONE,
             lifts: [whole; 4],
@@ -295,8 +254,7 @@ impl<'a> Asked<'a> {
             base: u32::from(signature.result),
             shape,
         };
-        let types = self.context.types;
-        folded(types, wanted, signature.unit, self.fields.operands(), line)
+        self.folded(wanted, signature.unit)
     }
 
     /// What is found of an append, or the refusal of question 9, 10, 11 or 13.
@@ -316,7 +274,7 @@ impl<'a> Asked<'a> {
             base: left.base,
             shape,
         };
-        appended(types, first, more, operands, self.line)
+        self.appended(first, more)
     }
 
     /// What is found of a reversal, or the refusal of question 9, 10, 11 or 13.

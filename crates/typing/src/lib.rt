@@ -10,6 +10,7 @@ mod lifting;
 mod operands;
 mod parameters;
 mod rules;
+mod types;
 
 pub use applications::spread;
 pub use contents::{has_codes, parts_of_base, parts_of_shape};
@@ -17,6 +18,7 @@ pub use found::{Context, Entry, Items, Lift, Typed};
 pub use operands::{Application, all_earlier};
 pub use parameters::Parameters;
 pub use rules::type_line;
+pub use types::{framing, literal, parameter};
 
 #[cfg(test)]
 mod tests {
@@ -191,30 +193,30 @@ mod tests {
     fn a_frame_line_puts_cells_of_one_type_together(rt: HostRuntime) -> Result<(), Fail> {
         let types = [array(&[3])?, array(&[3])?, array(&[2])?];
         let context = after(&types);
-        let flags = Line {
-            base: 1,
-            ..line(2, &[2, 3], 1, &[0, 1])
-        };
         assert_eq!(rt; first_no(&context, &line(2, &[2, 3], 1, &[0, 1])), 0);
         assert_eq!(rt; first_no(&context, &line(2, &[2, 3], 1, &[0, 3])), 7);
         assert_eq!(rt; first_no(&context, &line(2, &[2, 3], 1, &[0])), 8);
         assert_eq!(rt; first_no(&context, &line(2, &[2, 3], 3, &[0, 1])), 8);
-        assert_eq!(rt; first_no(&context, &flags), 9);
         assert_eq!(rt; first_no(&context, &line(2, &[2, 3], 1, &[0, 2])), 10);
         assert_eq!(rt; first_no(&context, &line(2, &[0, 3], 1, &[])), 0);
+        let whole = array(&[2, 3])?.shape;
+        let nothing = array(&[0, 3])?.shape;
+        assert_eq!(rt; number(framing(&types, 0, whole, 1, &[0, 1], 3)), 0);
+        assert_eq!(rt; number(framing(&types, 0, whole, 1, &[0, 3], 3)), 7);
+        assert_eq!(rt; number(framing(&types, 0, whole, 1, &[0], 3)), 8);
+        assert_eq!(rt; number(framing(&types, 0, whole, 3, &[0, 1], 3)), 8);
+        assert_eq!(rt; number(framing(&types, 1, whole, 1, &[0, 1], 3)), 9);
+        assert_eq!(rt; number(framing(&types, 0, whole, 1, &[0, 2], 3)), 10);
+        assert_eq!(rt; number(framing(&types, 0, nothing, 1, &[], 3)), 0);
         Ok(())
     }
 
     #[test]
     fn a_parameter_line_names_a_parameter(rt: HostRuntime) -> Result<(), Fail> {
         let parameters = [array(&[3])?, array(&[256, 257])?];
-        let context = Context {
-            parameters: &parameters,
-            ..after(&[])
-        };
-        assert_eq!(rt; first_no(&context, &line(1, &[], 0, &[])), 0);
-        assert_eq!(rt; first_no(&context, &line(1, &[], 1, &[])), 13);
-        assert_eq!(rt; first_no(&context, &line(1, &[], 2, &[])), 7);
+        assert_eq!(rt; number(parameter(&parameters, 0, 0)), 0);
+        assert_eq!(rt; number(parameter(&parameters, 1, 0)), 13);
+        assert_eq!(rt; number(parameter(&parameters, 2, 0)), 7);
         Ok(())
     }
 }

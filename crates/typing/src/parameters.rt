@@ -8,7 +8,7 @@ use lines::ParameterType;
 use shapes::{ArrayType, Shape};
 
 /// The types of up to four parameters, of which the first `count` count.
-// They are kept in place, with their number beside them: entries and drafts stand in tables of fixed size, without a heap.
+// They are kept in place, with their number beside them, as the axes of a shape are and for the same reasons.
 #[derive(Clone, Copy)]
 pub struct Parameters {
     pub all: [ArrayType; 4],

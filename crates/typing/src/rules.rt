@@ -9,6 +9,7 @@ use algebra::Algebra;
 use lines::{Fields, Kind, Refusal};
 
 /// What is found of a line, or the refusal of its first no among the questions 7 to 13.
+// What `Asked` bundles comes apart here, since the operands may name no earlier lines.
 fn ruled<A: Algebra>(
     context: &Context,
     fields: &Fields,
@@ -35,6 +36,7 @@ fn ruled<A: Algebra>(
 }
 
 /// The typing rule: the questions 7 to 13 of a line in their order; what is found is written to `out`.
+// To a lent place, so that a line of a table is typed in place, and a refusal leaves it as it was.
 pub fn type_line<A: Algebra>(
     context: &Context,
     fields: &Fields,

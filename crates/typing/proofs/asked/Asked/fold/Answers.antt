@@ -1,5 +1,5 @@
 -- The operator's signature says the base type and the unit.
-use Rattle.std.proofs.Common.{ℕ, [], length, take, sym, ap, ◌∙◌, arith}
+use Rattle.std.proofs.Common.{ℕ, [], length, take, sym, ap, ◌∙◌, arith, refl}
 use Rattle.remora.specs.Formulas.{shaped}
 use Rattle.shapes.specs.Axes.{dims}
 use Rattle.lines.specs.Lines.{number_for}
@@ -22,6 +22,6 @@ returns g c =
     let said = c.in-Some.ensures in
     let os = take f.count f.operands in
     let same = said.1 in
-    fold_ruled m (length es) (known_in es) (usable_in es) ps ts (number_for f.kind) f.base f.function (dims f.shape) os [] c.operands.result.now (shaped c.from.result (dims f.shape)) s.unit c.args.self.now.line c.folded.result
-    (ap (λ (b : ℕ). shaped b (dims f.shape)) c.from.ensures ∙ ap (λ (o : Operator). shaped o.result (dims f.shape)) same) (ap (λ (o : Operator). o.unit) same) c.operands.ensures.all c.args.self.now.earlier said.0
+    fold_ruled m (length es) (known_in es) (usable_in es) ps ts (number_for f.kind) f.base f.function (dims f.shape) os [] os (shaped c.from.result (dims f.shape)) s.unit c.args.self.now.line c.folded.result
+    (ap (λ (b : ℕ). shaped b (dims f.shape)) c.from.ensures ∙ ap (λ (o : Operator). shaped o.result (dims f.shape)) same) (ap (λ (o : Operator). o.unit) same) refl c.args.self.now.earlier said.0
     (sym (ap (λ (o : Operator). foldable o.operands o.result) same) ∙ sym c.if-not-is_foldable.ensures) c.requires (some_axis (dims f.shape) (λ e. c.if-rank-eq0.false (omega arith))) c.folded.ensures
