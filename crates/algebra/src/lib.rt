@@ -1,7 +1,7 @@
 // Algebras of samples: the trait that the library is generic over, and what its implementations owe.
 #![tactic(auto)]
 
-ghost use Rattle.std.specs.Prelude.{◌≡◌, ℕ, true, length};
+ghost use Rattle.std.specs.Prelude.{◌≡◌, ◌≤◌, ℕ, true, length};
 ghost use Rattle.remora.specs.Algebras.{Meaning, Sample, applied};
 ghost use Rattle.algebra.specs.Operands.{listed};
 ghost use Rattle.algebra.specs.Promises.{Denotes, Described, ReadAs, samples, answered};
@@ -17,7 +17,8 @@ pub enum Operands<T> {
 impl<T> Operands<T> {
     /// How many operands there are.
     pub fn count(&self) -> usize
-        ensures { result ≡ length (listed self.now) }
+        ensures exact { result ≡ length (listed self.now) }
+        ensures few { (1 ≤ result) × (result ≤ 3) }
     {
         match self {
             Operands::One(_) => 1,
@@ -86,6 +87,7 @@ pub trait Algebra {
     }
 
     /// The number of a fault's cause: 0 if the operator is unknown or takes other operands.
+    // A method and no `Into<u8>`, since its clause speaks of what this algebra means by a fault.
     fn cause_of(fault: Self::Fault) -> u8
         ensures { result ≡ cause fault };
 

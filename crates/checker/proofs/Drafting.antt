@@ -92,17 +92,17 @@ module _ (m : Meaning) (es : List Entry) (d : Draft) (before after : List Row) (
   tall e = givens_length after before e ∙ ap length before-is ∙ length-take-le d.height d.rows few
 
   -- the check in the draft's own terms
-  moved : (r : Result (Unit {0}) Refusal) → givens after ≡ givens before → CheckedAs m es (types_of own) d.codes before r after f
-      → CheckedAs m es (types_of (take d.parameters.count d.parameters.all)) d.codes (take d.height d.rows) r (take d.height all) f
+  moved : (r : Result Forecast Refusal) → givens after ≡ givens before → CheckedAs m es (types_of own) d.codes before r after
+      → CheckedAs m es (types_of (take d.parameters.count d.parameters.all)) d.codes (take d.height d.rows) r (take d.height all)
   moved r e c =
-      subst (λ (rs : List Row). CheckedAs m es (types_of (take d.parameters.count d.parameters.all)) d.codes (take d.height d.rows) r rs f) (sym (front_written d.rows after d.height (tall e)))
-      (subst (λ (rs : List Row). CheckedAs m es (types_of (take d.parameters.count d.parameters.all)) d.codes rs r after f) before-is
-      (subst (λ (ts : List ArrayType). CheckedAs m es (types_of ts) d.codes before r after f) own_is c))
+      subst (λ (rs : List Row). CheckedAs m es (types_of (take d.parameters.count d.parameters.all)) d.codes (take d.height d.rows) r rs) (sym (front_written d.rows after d.height (tall e)))
+      (subst (λ (rs : List Row). CheckedAs m es (types_of (take d.parameters.count d.parameters.all)) d.codes rs r after) before-is
+      (subst (λ (ts : List ArrayType). CheckedAs m es (types_of ts) d.codes before r after) own_is c))
 
   -- all lines were typed
-  pub check_done : (u : Unit {0}) (none : Row) (r : Result Entry Refusal) → 0 < d.height → CheckedAs m es (types_of own) d.codes before (Ok u) after f
+  pub check_done : (none : Row) (r : Result Entry Refusal) → 0 < d.height → CheckedAs m es (types_of own) d.codes before (Ok f) after
       → LimitedBy d.parameters (get_or all (d.height - 1) none).found.array f r → DraftChecked m es d r (with_rows d all)
-  check_done u none (Ok e) some c l =
-      draft_accepted m es d all f (front_length d.rows after d.height (tall c.given) few) (moved (Ok u) c.given c) e none some few l
-  check_done u none (Err x) some c l =
-      draft_beyond m es d all f (front_length d.rows after d.height (tall c.given) few) (moved (Ok u) c.given c) (get_or all (d.height - 1) none).found.array x l
+  check_done none (Ok e) some c l =
+      draft_accepted m es d all f (front_length d.rows after d.height (tall c.given) few) (moved (Ok f) c.given c) e none some few l
+  check_done none (Err x) some c l =
+      draft_beyond m es d all f (front_length d.rows after d.height (tall c.given) few) (moved (Ok f) c.given c) (get_or all (d.height - 1) none).found.array x l

@@ -327,9 +327,9 @@ module _ (m : Meaning) (es : List Entry) (ps : List theory.ArrayType) (cs : List
         subst (Progress m es ps cs first (k + 1) (set types k s.found.array) (set rows k s)) (sym f-is) (progress_more s e room all.0 (all.1 ∙ place_is) all.2 all.3 known (omega arith))
 
     -- the line is refused, by the code's own list of types
-    pub progress_stop : (own : List ArrayType) (s : Row) (e : Refusal) (place : ℕ) (f' : Forecast) → own ≡ take k types → k < length types → RowTyped m es ps (types_of own) cs k place (get_or rows k d) (Err e) s
-        → CheckedAs m es ps cs first (Err e) (set rows k s) f'
-    progress_stop own s e place f' own_is room told =
+    pub progress_stop : (own : List ArrayType) (s : Row) (e : Refusal) (place : ℕ) → own ≡ take k types → k < length types → RowTyped m es ps (types_of own) cs k place (get_or rows k d) (Err e) s
+        → CheckedAs m es ps cs first (Err e) (set rows k s)
+    progress_stop own s e place own_is room told =
         let all = subst (λ (ts : List ArrayType). RowTyped m es ps (types_of ts) cs k place (get_or rows k d) (Err e) s) own_is told in
         let same : s.given ≡ (get_or rows k d).given = ap (λ (r : Row). r.given) all.1 in
         let long = givens_length rows first p.given in

@@ -84,9 +84,9 @@ pub record RefusedBy (v : Verdict) (e : Refusal) : Type 0 where
   pub answer : answer_of e ≡ refused number (Some line)
 
 -- The check of a draft's lines.
-abbrev pub CheckedAs : Meaning → List Entry → List theory.ArrayType → List ℕ → List Row → Result (Unit {0}) Refusal → List Row → Forecast → Type 0
-CheckedAs m es ps cs first (Ok u) rows f = Checked m es ps cs first rows f
-CheckedAs m es ps cs first (Err e) rows f = RefusedBy (verdict m es ps [] (lines_in cs first)) e × (givens rows ≡ givens first)
+abbrev pub CheckedAs : Meaning → List Entry → List theory.ArrayType → List ℕ → List Row → Result Forecast Refusal → List Row → Type 0
+CheckedAs m es ps cs first (Ok f) rows = Checked m es ps cs first rows f
+CheckedAs m es ps cs first (Err e) rows = RefusedBy (verdict m es ps [] (lines_in cs first)) e × (givens rows ≡ givens first)
 
 -- ---- the whole draft
 

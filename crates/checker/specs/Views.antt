@@ -1,5 +1,5 @@
 -- The draft and the tables as the theory's draft and formulas.
-use Rattle.std.specs.Prelude.{ℕ, cond, List, [], ◌∷◌, take, drop, Some, None, Option}
+use Rattle.std.specs.Prelude.{ℕ, List, [], ◌∷◌, take, drop, Some, None, Option}
 use Rattle.remora.specs.Formulas as theory
 use Rattle.remora.specs.Machine as machine
 use Rattle.remora.specs.Calls as calls

@@ -38,14 +38,13 @@ fn type_rows<'a, A: Algebra>(
     codes: &[u64],
     parameters: &'a [ArrayType],
     formulas: &'a [Entry],
-    forecast: &mut Forecast,
-) -> Result<(), Refusal>
+) -> Result<Forecast, Refusal>
     requires { length rows.old ≤ 64 }
-    ensures { CheckedAs A.meaning formulas.now (types_of parameters.now) codes.now rows.old result rows.new forecast.new }
+    ensures { CheckedAs A.meaning formulas.now (types_of parameters.now) codes.now rows.old result rows.new }
 {
     // The types stand beside the lines too, since a context lends them as one slice, without a heap.
     let mut types = [ArrayType::NOTHING; 64];
-    *forecast = Forecast::none();
+    let mut forecast = Forecast::none();
     for (k, row) in rows.iter_mut().enumerate() {
         let context = Context {
             parameters,
@@ -57,14 +56,14 @@ fn type_rows<'a, A: Algebra>(
         forecast.add(Share::of(row, callee));
         types[k] = row.found.array;
     }
-    Ok(())
+    Ok(forecast)
 }
 
 /// Whether forecasts, of which the steps may be more than a `u64` holds, are within the limits.
 fn are_within_limits(steps: u128, room: u64, depth: u64) -> bool
     ensures { result ≡ limited steps room depth }
 {
-    steps <= STEPS as u128 && within_limits(steps as u64, room, depth)
+    steps <= u128::from(STEPS) && within_limits(steps as u64, room, depth)
 }
 
 /// What is known of a formula with these parameters and this result, if its forecasts, by those of its lines, are within the limits.
@@ -78,7 +77,7 @@ fn entry_within(
 {
     let steps = 1 + forecast.steps;
     let room = forecast.room();
-    let depth = 1 + forecast.depth as u64;
+    let depth = 1 + u64::from(forecast.depth);
     if !are_within_limits(steps, room, depth) {
         return Err(Refusal::BeyondLimits);
     }
@@ -100,13 +99,11 @@ impl Draft {
     {
         let height = self.height as usize;
         let parameters = self.parameters;
-        let mut forecast = Forecast::none();
-        type_rows::<A>(
+        let forecast = type_rows::<A>(
             &mut self.rows[0..height],
             &self.codes,
             parameters.as_slice(),
             formulas,
-            &mut forecast,
         )?;
         let result = self.rows[height - 1].found.array;
         entry_within(parameters, result, forecast)

@@ -26,7 +26,7 @@ pub struct Forecast {
 }
 
 /// What is known of formula `number`, nothing if it was not given.
-// As in the theory no Option, since a line that calls such a number was refused before.
+// As in the theory no Option: each line asks, and only a call, of which the number was given, uses the answer.
 pub fn known(formulas: &[Entry], number: u32) -> Entry
     ensures { entry_of result ≡ known_in formulas.now number }
 {
@@ -52,7 +52,7 @@ impl Share {
                 depth: 0,
             },
             Kind::Call => Share {
-                steps: 1 + cells as u64 * (1 + callee.steps as u64),
+                steps: 1 + u64::from(cells) * (1 + u64::from(callee.steps)),
                 atoms,
                 behind: if cells > 0 { callee.room } else { 0 },
                 depth: callee.depth,
@@ -85,10 +85,10 @@ impl Forecast {
         requires { (self.old.steps < 2 ^ 120) × (self.old.place < 2 ^ 60) }
         ensures { self.new ≡ added self.old share }
     {
-        let end = self.place + share.atoms as u64;
-        self.steps += share.steps as u128;
+        let end = self.place + u64::from(share.atoms);
+        self.steps += u128::from(share.steps);
         self.place = end;
-        self.most = self.most.max(end + share.behind as u64);
+        self.most = self.most.max(end + u64::from(share.behind));
         self.depth = self.depth.max(share.depth);
     }
 

@@ -47,7 +47,7 @@ impl<A: Algebra> Collection<A> {
     fn has_space(&self, codes: usize) -> bool
         ensures { result ≡ (nat_le (self.now.draft.height + 1) 64 && (nat_le (self.now.tables.height + self.now.draft.height + 1) 1024 && nat_le (self.now.tables.width + self.now.draft.width + codes) 4096)) }
     {
-        let rows = self.tables.height as u64 + self.draft.height as u64;
+        let rows = u64::from(self.tables.height) + u64::from(self.draft.height);
         let kept = self.tables.width as usize + self.draft.width as usize;
         self.draft.height < 64 && rows < 1024 && kept <= 4096 && codes <= 4096 - kept
     }
@@ -121,6 +121,7 @@ impl<A: Algebra> Collection<A> {
     }
 
     /// Writes what is known of a number to the lent record.
+    // To a lent place, as the project has its questions answer; a refusal leaves what stood there.
     pub fn entry(&self, number: u32, out: &mut Entry) -> Result<(), Refusal>
         ensures told { Serves A.meaning (state_of self.now) (entry_call number) (stated result out.new) (state_of self.now) }
         ensures lent { Lent result out.old out.new }

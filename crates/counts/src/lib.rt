@@ -9,7 +9,6 @@ ghost use Rattle.counts.specs.Operators.{number, Numbered};
 ghost use Rattle.counts.specs.Faults.{cause, fault_text};
 ghost use Rattle.counts.specs.Denoted.{sampled};
 ghost use Rattle.counts.specs.Lawful;
-ghost use Rattle.std.proofs.Common.{rules};
 
 use Value::{Count, Flag};
 use algebra::Operands::{One, Three, Two};
@@ -221,8 +220,8 @@ impl Algebra for Counts {
 
     fn code_of(atom: Value) -> u64 {
         match atom {
-            Count(n) => n as u64,
-            Flag(b) => b as u64,
+            Count(n) => u64::from(n),
+            Flag(b) => u64::from(b),
         }
     }
 

@@ -21,7 +21,7 @@ enum Failure {
 }
 
 /// What a trace is read from.
-// No Option, since each of the two has a name and is read in its own way.
+// No Option: both methods would say anew that none means standard input, and would stand on no type.
 #[derive(Drop)]
 enum Source {
     File(String),

@@ -42,70 +42,75 @@ fn codes_of(rt: &HostRuntime, codes: Codes) -> Result<Vec<u64>, Trouble> {
     }
 }
 
-/// Adds the line that a command gives.
-fn add_line(rt: &HostRuntime, session: &mut Session, fields: LineFields) -> Result<Told, Trouble> {
-    let codes = codes_of(rt, fields.codes)?;
-    let line = Line {
-        kind: fields.kind,
-        base: fields.base,
-        shape: fields.shape.as_slice(),
-        function: fields.function,
-        operands: fields.operands.as_slice(),
-        codes: codes.as_slice(),
-    };
-    session.line(fields.slip, &line)
+/// A session that a script is played on, and whether a command was read: the algebra is named before all others.
+struct Player {
+    session: Session,
+    begun: bool,
 }
 
-/// Makes the call that a command names; a comment and the naming of the algebra, which comes first, make none.
-fn perform(
-    rt: &HostRuntime,
-    session: &mut Session,
-    first: bool,
-    command: Command,
-) -> Result<Option<Told>, Trouble> {
+impl Player {
+    /// Adds the line that a command gives.
+    fn add_line(&mut self, rt: &HostRuntime, fields: LineFields) -> Result<Told, Trouble> {
+        let codes = codes_of(rt, fields.codes)?;
+        let line = Line {
+            kind: fields.kind,
+            base: fields.base,
+            shape: fields.shape.as_slice(),
+            function: fields.function,
+            operands: fields.operands.as_slice(),
+            codes: codes.as_slice(),
+        };
+        self.session.line(fields.slip, &line)
+    }
+
+    /// Makes the call that a command names; a comment and the naming of the algebra make none.
     // A match, since each command holds values of its own, which a table of closures could not take out of it.
-    let told = match command {
-        Command::Nothing => return Ok(None),
-        Command::Algebra(_) if !first => return Err(Trouble::LateAlgebra),
-        Command::Algebra(AlgebraName::Counts) => return Ok(None),
-        Command::Open(types) => session.open(rt.alloc(), types.as_slice())?,
-        Command::Line(fields) => add_line(rt, session, fields)?,
-        Command::Enter(serial) => session.enter(serial)?,
-        Command::Scrap(serial) => session.scrap(serial)?,
-        Command::Withdraw(number) => session.withdraw(number),
-        Command::Entry(number) => session.entry(number),
-        _ => return Err(Trouble::NotYet),
-    };
-    Ok(Some(told))
-}
-
-/// Reads one line of a script, makes its call and prints the answer; says whether the line has a command.
-fn step(rt: &HostRuntime, session: &mut Session, first: bool, line: &str) -> Result<bool, Trouble> {
-    let command = read_command(rt.alloc(), AlgebraName::Counts, line)?;
-    let said = !matches!(command, Command::Nothing);
-    if let Some(told) = perform(rt, session, first, command)? {
-        println!(rt; "{told}")?;
+    fn perform(&mut self, rt: &HostRuntime, command: Command) -> Result<Option<Told>, Trouble> {
+        let told = match command {
+            Command::Nothing => return Ok(None),
+            Command::Algebra(_) if self.begun => return Err(Trouble::LateAlgebra),
+            Command::Algebra(AlgebraName::Counts) => None,
+            Command::Open(types) => Some(self.session.open(rt.alloc(), types.as_slice())?),
+            Command::Line(fields) => Some(self.add_line(rt, fields)?),
+            Command::Enter(serial) => Some(self.session.enter(serial)?),
+            Command::Scrap(serial) => Some(self.session.scrap(serial)?),
+            Command::Withdraw(number) => Some(self.session.withdraw(number)),
+            Command::Entry(number) => Some(self.session.entry(number)),
+            _ => return Err(Trouble::NotYet),
+        };
+        self.begun = true;
+        Ok(told)
     }
-    Ok(said)
-}
 
-/// Goes through a script line by line, up to the first that stops it.
-fn play(rt: &HostRuntime, session: &mut Session, script: &str) -> Result<(), Stopped> {
-    let mut first = true;
-    for (i, line) in script.lines().enumerate() {
-        let said = step(rt, session, first, line).map_err(|trouble| Stopped {
-            line: i.saturating_add(1),
-            trouble,
-        })?;
-        first = first && !said;
+    /// Reads one line of a script, makes its call and prints the answer.
+    fn step(&mut self, rt: &HostRuntime, line: &str) -> Result<(), Trouble> {
+        let command = read_command(rt.alloc(), AlgebraName::Counts, line)?;
+        if let Some(told) = self.perform(rt, command)? {
+            println!(rt; "{told}")?;
+        }
+        Ok(())
     }
-    Ok(())
+
+    /// Goes through a script line by line, up to the first that stops it.
+    fn play(&mut self, rt: &HostRuntime, script: &str) -> Result<(), Stopped> {
+        for (i, line) in script.lines().enumerate() {
+            self.step(rt, line).map_err(|trouble| Stopped {
+                line: i.saturating_add(1),
+                trouble,
+            })?;
+        }
+        Ok(())
+    }
 }
 
 /// One session: its answers, its summary, and what stopped it.
 fn run(rt: &HostRuntime, script: &str) -> Result<(), Failure> {
-    let mut session = Session::new(rt.alloc());
-    let played = play(rt, &mut session, script);
+    let mut player = Player {
+        session: Session::new(rt.alloc()),
+        begun: false,
+    };
+    let played = player.play(rt, script);
+    let Player { session, begun: _ } = player;
     let summary = &session;
     let printed = println!(rt; "{summary}");
     session.end();
@@ -123,16 +128,18 @@ fn run_file(rt: &HostRuntime, name: String) -> Result<(), Failure> {
 
 /// Runs the scripts that the arguments name up to the first that fails, each as a session of its own, or the one on standard input.
 fn run_all(rt: &HostRuntime) -> Result<(), Failure> {
-    let mut named = false;
-    for name in env::args(rt)?.skip(1) {
-        named = true;
+    let names: Vec<String> = env::args(rt)?
+        .skip(1)
+        .collect(rt.alloc())
+        .map_err(io::Error::from)?;
+    if names.is_empty() {
+        let script = io::read_to_string(rt.alloc(), rt.stdin())?;
+        return run(rt, script.as_str());
+    }
+    for name in names {
         run_file(rt, name)?;
     }
-    if named {
-        return Ok(());
-    }
-    let script = io::read_to_string(rt.alloc(), rt.stdin())?;
-    run(rt, script.as_str())
+    Ok(())
 }
 
 /// Runs the scripts that are named; the status is 1 where one fails, and what failed is told.

@@ -4,7 +4,7 @@ ghost use Rattle.remora.specs.Calls.{unnamed_empty};
 ghost use Rattle.lines.specs.Lines.{line_of, KindOf, kind_for};
 
 /// A line as it is handed over: any numbers, so that everything can be shown and refused.
-// The numbers stay numbers, since a draft that is in order nowhere must still be told its first no.
+// The numbers stay numbers, since a line of no kind or no base type can be handed over too, and is refused by 5.
 #[derive(Clone, Copy, Debug)]
 pub struct Line<'a> {
     pub kind: u32,
@@ -16,6 +16,7 @@ pub struct Line<'a> {
 }
 
 /// The type of a parameter as it is handed over.
+// The base type stays a number, since one that is unknown can be handed over too, and is refused by 2.
 #[derive(Clone, Copy, Debug)]
 pub struct ParameterType<'a> {
     pub base: u32,

@@ -64,7 +64,7 @@ pub enum Verb {
 }
 
 /// The command that a word names.
-// An Option, since a `FromStr` would need an error of its own, which nothing reads.
+// An Option and no `FromStr`, since a word that names nothing is told by the caller, with the word.
 fn verb_named(word: &str) -> Option<Verb>
     ensures { result ≡ verb_of word.now }
 {

@@ -1,6 +1,7 @@
 // Session scripts: reading one line of a script into a command.
 #![tactic(auto)]
-// The heap goes to each function that allocates, as the library has it; a struct for it and the text would be made anew for each part of a text.
+// The heap goes to each function that allocates, as the library has it. Text and algebra stand beside it, since a struct with the text would be
+// made anew for each part of a text, and most functions that take the heap know no algebra.
 
 mod commands;
 mod errors;

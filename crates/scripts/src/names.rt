@@ -23,7 +23,7 @@ pub struct TypeWord {
 }
 
 /// The algebra of a name, if it has one.
-// An Option, since a `FromStr` would need an error of its own, which nothing reads.
+// An Option and no `FromStr`, since a word that names nothing is told by the caller, with the word.
 fn algebra_named(word: &str) -> Option<AlgebraName>
     ensures { result ≡ algebra_of word.now }
 {
@@ -87,6 +87,7 @@ pub fn read_algebra(heap: Global, word: &str) -> Result<AlgebraName, ReadError>
 }
 
 /// Reads a word as an operator, by its name or its number.
+// This and the next two have a list and an error of their own; what they share is `named_or_number` and `found_or`.
 pub fn read_operator(heap: Global, word: &str) -> Result<u32, ReadError>
     ensures { Reads (operator_said word.now) itself result }
 {

@@ -10,8 +10,8 @@ ghost use Rattle.shapes.specs.Equality.{same_equiv};
 /// Up to four axes.
 #[derive(Clone, Copy)]
 pub struct Shape {
-    // The axes are kept in place, with their number beside them: shapes are copied and stand in tables of fixed size, without a heap. One generic
-    // type for axes, operands and parameters would hold an array of a type parameter, of whose size calls would owe a bound each time.
+    // The axes are kept in place, with their number beside them: shapes are copied and stand in tables of fixed size, without a heap. As the project
+    // has it a shape is an array of four axes and a rank, so there is no type of up to four numbers below it and the operands of a line.
     axes: [u32; 4],
     rank: u8,
 }
@@ -75,7 +75,7 @@ impl Shape {
         ensures axes { result.now ≡ dims self.now }
         ensures few { length result.now ≤ 4 }
     {
-        let rank = (self.rank as usize).min(4);
+        let rank = usize::from(self.rank).min(4);
         &self.axes[..rank]
     }
 

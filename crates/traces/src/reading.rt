@@ -62,7 +62,7 @@ fn is_comment(line: &[u8]) -> bool
 }
 
 /// Reads one piece of the line of this number onto the end of `codes`; an empty piece says nothing.
-// The codes and the number are two parameters: a struct for them would be made anew for each line.
+// The codes and the number are two parameters: a struct for them would be told the number again at each line, and hand both on as they are.
 fn read_word(codes: &mut Vec<u32>, number: usize, word: &str) -> Result<(), TraceError>
     ensures { Told number (words_in (word.now ∷ [])) codes.old.items codes.new.items result }
 {

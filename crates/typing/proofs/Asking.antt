@@ -1,13 +1,13 @@
 -- The questions on operands as tests of all their items, and the principal frame as it is joined together.
-use Rattle.std.proofs.Common.{◌≡◌, ℕ, ◌+◌, ◌<◌, Bool, true, false, ◌&&◌, eqb, ltb, List, [], ◌∷◌, ◌++◌, map, length, get_or, take, drop, sym, refl, ap, ◌∙◌}
+use Rattle.std.proofs.Common.{◌≡◌, ℕ, ◌+◌, ◌<◌, Bool, true, false, ◌&&◌, ltb, List, [], ◌∷◌, ◌++◌, map, length, get_or, take, drop, sym, refl, ap, ◌∙◌}
 use Rattle.std.specs.List.{list_all}
 use Rattle.std.specs.Prelude.{zip}
 use Rattle.std.proofs.lemmas.List.{length-map, map-append, take_more, take-append-drop}
 use Rattle.std.proofs.lemmas.Bool.{and_parts, and_from, both_ways}
 use Rattle.remora.specs.Formulas as theory
-use Rattle.remora.specs.Shapes.{same, frame_of, comparable, longer, agree_with, agree, principal}
+use Rattle.remora.specs.Shapes.{frame_of, comparable, longer, agree_with, agree, principal}
 use Rattle.remora.proofs.Prefixes.{join_snoc}
-use Rattle.remora.specs.Questions.{type_at, earlier, each_fits, frames, in_set, same_base, same_shape}
+use Rattle.remora.specs.Questions.{type_at, each_fits, frames}
 use Rattle.shapes.specs.declared.ArrayType.{ArrayType}
 use Rattle.shapes.specs.Axes.{array_type, dims}
 use Rattle.typing.specs.Typings.{types_of}
@@ -17,21 +17,11 @@ types_length ts = length-map ts array_type
 
 -- ---- questions on each item of a list
 
-pub earlier_all : (types : List theory.ArrayType) (os : List ℕ) → list_all (λ o. ltb o (length types)) os ≡ earlier types os
-earlier_all types [] = refl
-earlier_all types (o ∷ os) = ap (λ (b : Bool). ltb o (length types) && b) (earlier_all types os)
-
-pub in_set_all : (holds : ℕ → ℕ → Bool) (base : ℕ) (cs : List ℕ) → list_all (holds base) cs ≡ in_set holds base cs
-in_set_all holds base [] = refl
-in_set_all holds base (c ∷ cs) = ap (λ (b : Bool). holds base c && b) (in_set_all holds base cs)
-
-pub same_base_all : (types : List theory.ArrayType) (base : ℕ) (os : List ℕ) → list_all (λ o. eqb (type_at types o).base base) os ≡ same_base types base os
-same_base_all types base [] = refl
-same_base_all types base (o ∷ os) = ap (λ (b : Bool). eqb (type_at types o).base base && b) (same_base_all types base os)
-
-pub same_shape_all : (types : List theory.ArrayType) (s : List ℕ) (os : List ℕ) → list_all (λ o. same (type_at types o).shape s) os ≡ same_shape types s os
-same_shape_all types s [] = refl
-same_shape_all types s (o ∷ os) = ap (λ (b : Bool). same (type_at types o).shape s && b) (same_shape_all types s os)
+-- a question that goes through a list item by item is a test of all of them
+pub asked_of_all : {X : Type 0} (test : X → Bool) (question : List X → Bool) → question [] ≡ true → ((x : X) (xs : List X) → question (x ∷ xs) ≡ (test x && question xs))
+    → (xs : List X) → list_all test xs ≡ question xs
+asked_of_all test question none more [] = sym none
+asked_of_all test question none more (x ∷ xs) = ap (λ (b : Bool). test x && b) (asked_of_all test question none more xs) ∙ sym (more x xs)
 
 -- ---- questions on each operand and the cell that is wanted of it
 
@@ -41,8 +31,6 @@ fits_all test types [] [] = refl
 fits_all test types [] (o ∷ os) = refl
 fits_all test types (w ∷ ws) [] = refl
 fits_all test types (w ∷ ws) (o ∷ os) = ap (λ (b : Bool). test (type_at types o) (array_type w) && b) (fits_all test types ws os)
-
--- ---- the type of an operand
 
 -- ---- frames
 

@@ -26,7 +26,8 @@ pub fn has_codes<A: Algebra>(base: u32, codes: &[u64]) -> bool
 }
 
 /// Whether each operand has this base type.
-// Without the cells of an `Application`, since the parts of a frame line have none that are wanted of them.
+// No `Application`, since there are no cells that are wanted of the parts of a frame line. The next function has another test: one for both
+// would take it as a closure and be told what it means.
 pub fn parts_of_base(types: &[ArrayType], base: u32, operands: &[u32]) -> bool
     ensures { result ≡ same_base (types_of types.now) base operands.now }
 {
@@ -36,6 +37,7 @@ pub fn parts_of_base(types: &[ArrayType], base: u32, operands: &[u32]) -> bool
 }
 
 /// Whether each operand has this shape.
+// No `Application`, as above.
 pub fn parts_of_shape(types: &[ArrayType], shape: Shape, operands: &[u32]) -> bool
     ensures { result ≡ same_shape (types_of types.now) (dims shape) operands.now }
 {

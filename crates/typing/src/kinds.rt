@@ -35,6 +35,7 @@ pub(crate) fn literal<A: Algebra>(
 }
 
 /// What is found of a parameter line, or the refusal of question 7 or 13.
+// No `Asked`, since a parameter line has no operands.
 pub(crate) fn parameter(context: &Context, fields: &Fields, line: u32) -> Result<Typed, Refusal>
     ensures { (m : Meaning) → RuledAs m context.now a_parameter (line_with fields.now []) line result }
 {

@@ -15,6 +15,7 @@ pub(crate) fn is_typed(types: &[ArrayType], number: u32) -> bool
 }
 
 /// Whether each operand names an earlier line; there are as many of these as types.
+// No `Application`, since this is asked before the cells are known.
 pub fn all_earlier(types: &[ArrayType], operands: &[u32]) -> bool
     ensures { result ≡ earlier (types_of types.now) operands.now }
 {
@@ -49,6 +50,7 @@ pub struct Application<'a> {
 
 impl Application<'_> {
     /// Whether each operand has the base type that is wanted of it.
+    // The next method has another test: one for both would take it as a closure and be told what it means.
     pub fn bases_fit(&self) -> bool
         ensures { result ≡ bases_fit (types_of self.now.types.now) (types_of self.now.wanted.now) self.now.operands.now }
     {

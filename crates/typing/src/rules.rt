@@ -36,7 +36,7 @@ fn ruled<A: Algebra>(
 }
 
 /// The typing rule: the questions 7 to 13 of a line in their order; what is found is written to `out`.
-// To a lent place, so that a line of a table is typed in place, and a refusal leaves it as it was.
+// To a lent place, as the project has the typing rule answer; a refusal leaves what stood there.
 pub fn type_line<A: Algebra>(
     context: &Context,
     fields: &Fields,

@@ -9,6 +9,7 @@ use lines::Refusal;
 use shapes::{ArrayType, Shape};
 
 /// The type of a literal, or the refusal of question 8 or 13.
+// Base type and shape as a line has them: together they are an array type only once the answers are yes.
 pub fn literal<A: Algebra>(
     base: u32,
     shape: Shape,
@@ -42,6 +43,7 @@ pub fn parameter(parameters: &[ArrayType], number: u32, line: u32) -> Result<Arr
 }
 
 /// The type of a frame line of `rank` frame axes, or the refusal of question 7, 8, 9, 10 or 13.
+// Base type and shape as above, and no `Application`, since there are no cells that are wanted of the operands.
 pub fn framing(
     types: &[ArrayType],
     base: u32,

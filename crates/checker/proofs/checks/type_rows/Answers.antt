@@ -9,14 +9,14 @@ use Rattle.checker.proofs.checks.type_rows.Goals as goal
 
 pub loop-k-init : goal.loop-k-init
 loop-k-init g c =
-    (progress_start g.A.Algebra.meaning c.args.formulas.now (types_of c.args.parameters.now) c.args.codes.now c.args.rows.now _ c.none.result c.none.ensures, refl)
+    (progress_start g.A.Algebra.meaning c.args.formulas.now (types_of c.args.parameters.now) c.args.codes.now c.args.rows.now _ c.none-forecast.result c.none-forecast.ensures, refl)
 
 pub returns-in_err-type_row : goal.returns-in_err-type_row
 returns-in_err-type_row g c =
     let q = err_from_is_err_and c.from_residual.result c.from_residual.ensures.1 in
     let k = c.loop-k.k in
     rw (q.1, q.2) (progress_stop g.A.Algebra.meaning c.args.formulas.now (types_of c.args.parameters.now) c.args.codes.now c.args.rows.now k c.loop-k.types c.loop-k.rows c.loop-k.forecast
-    c.loop-k.invariant.0 (omega arith) _ (take k c.loop-k.types) c.type_row.new.row _ c.loop-k.forecast.place c.loop-k.forecast refl (omega arith) c.in_err-type_row.ensures)
+    c.loop-k.invariant.0 (omega arith) _ (take k c.loop-k.types) c.type_row.new.row _ c.loop-k.forecast.place refl (omega arith) c.in_err-type_row.ensures)
 
 pub loop-k-preserved : goal.loop-k-preserved
 loop-k-preserved g c =

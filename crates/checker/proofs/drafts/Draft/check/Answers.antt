@@ -9,5 +9,5 @@ returns g c =
     let many : length d.rows ≡ 64 = search rules in
     let front : take (d.height - 0) d.rows ≡ take d.height d.rows = ap (λ (n : ℕ). take n d.rows) (omega arith) in
     let own = c.as_slice.ensures.all in
-    check_done g.A.Algebra.meaning c.args.formulas.now d (take (d.height - 0) d.rows) c.type_rows.new.rows c.as_slice.result.now c.type_rows.new.forecast
-    front own (omega arith) tt _ c.entry_within.result c.requires.0 c.in_ok-type_rows.ensures c.entry_within.ensures
+    check_done g.A.Algebra.meaning c.args.formulas.now d (take (d.height - 0) d.rows) c.type_rows.new.rows c.as_slice.result.now c.in_ok-forecast.forecast
+    front own (omega arith) _ c.entry_within.result c.requires.0 c.in_ok-forecast.ensures c.entry_within.ensures

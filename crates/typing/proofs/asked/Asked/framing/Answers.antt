@@ -1,5 +1,5 @@
 -- A part of an allowed shape is allowed, so that the size of a cell is exact.
-use Rattle.std.proofs.Common.{◌≡◌, ◌≤◌, ℕ, true, List, [], eqb, leb, length, take, drop, sym, refl, ap, ◌∙◌, arith}
+use Rattle.std.proofs.Common.{◌≡◌, ◌≤◌, true, [], eqb, leb, length, take, drop, sym, refl, ap, ◌∙◌, arith}
 use Rattle.std.proofs.lemmas.Bool.{and_parts, eqb-true, leb-true}
 use Rattle.remora.specs.Questions.{same_base, same_shape}
 use Rattle.remora.specs.Shapes.{allowed, size}

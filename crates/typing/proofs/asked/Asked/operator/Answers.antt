@@ -22,7 +22,7 @@ returns-in-One g c =
     let wanted : array_type c.scalar.result ∷ [] ≡ scalars (c.in-One.a ∷ []) = cc in
     operator_ruled m (length es) (known_in es) (usable_in es) (types_of x.parameters.now) (types_of x.types.now) (line_with f []) (take f.count f.operands) _ _ c.args.self.now.line c.applied.result
     (wanted ∙ ap scalars bases) refl (c.scalar-cell.ensures ∙ ap (λ (o : Operator). shaped o.result []) said.1) few c.args.self.now.earlier said.0
-    (sym (ap length c.operands.ensures.all) ∙ c.if-operands-count.false ∙ c.count.ensures ∙ ap (λ (o : Operator). length o.operands) said.1) c.applied.ensures
+    (sym (ap length c.operands.ensures.all) ∙ c.if-operands-count.false ∙ c.count.ensures.exact ∙ ap (λ (o : Operator). length o.operands) said.1) c.applied.ensures
 
 pub returns-in-Two : goal.returns-in-Two
 returns-in-Two g c =
@@ -36,7 +36,7 @@ returns-in-Two g c =
     let wanted : array_type c.scalar-in-Two.result ∷ array_type c.scalar-in-Two-2.result ∷ [] ≡ scalars (c.in-Two.a ∷ c.in-Two.b ∷ []) = cc in
     operator_ruled m (length es) (known_in es) (usable_in es) (types_of x.parameters.now) (types_of x.types.now) (line_with f []) (take f.count f.operands) _ _ c.args.self.now.line c.applied-in-Two.result
     (wanted ∙ ap scalars bases) refl (c.scalar-cell.ensures ∙ ap (λ (o : Operator). shaped o.result []) said.1) few c.args.self.now.earlier said.0
-    (sym (ap length c.operands.ensures.all) ∙ c.if-operands-count.false ∙ c.count.ensures ∙ ap (λ (o : Operator). length o.operands) said.1) c.applied-in-Two.ensures
+    (sym (ap length c.operands.ensures.all) ∙ c.if-operands-count.false ∙ c.count.ensures.exact ∙ ap (λ (o : Operator). length o.operands) said.1) c.applied-in-Two.ensures
 
 pub returns-in-Three : goal.returns-in-Three
 returns-in-Three g c =
@@ -50,4 +50,4 @@ returns-in-Three g c =
     let wanted : array_type c.scalar-in-Three.result ∷ array_type c.scalar-in-Three-2.result ∷ array_type c.scalar-in-Three-3.result ∷ [] ≡ scalars (c.in-Three.a ∷ c.in-Three.b ∷ c.in-Three.c ∷ []) = cc in
     operator_ruled m (length es) (known_in es) (usable_in es) (types_of x.parameters.now) (types_of x.types.now) (line_with f []) (take f.count f.operands) _ _ c.args.self.now.line c.applied-in-Three.result
     (wanted ∙ ap scalars bases) refl (c.scalar-cell.ensures ∙ ap (λ (o : Operator). shaped o.result []) said.1) few c.args.self.now.earlier said.0
-    (sym (ap length c.operands.ensures.all) ∙ c.if-operands-count.false ∙ c.count.ensures ∙ ap (λ (o : Operator). length o.operands) said.1) c.applied-in-Three.ensures
+    (sym (ap length c.operands.ensures.all) ∙ c.if-operands-count.false ∙ c.count.ensures.exact ∙ ap (λ (o : Operator). length o.operands) said.1) c.applied-in-Three.ensures
