@@ -1,6 +1,9 @@
 // The program `formulary`: reads session scripts, makes the calls that they name, and prints the answers.
 #![tactic(auto)]
 
+ghost use Rattle.std.specs.Prelude.{◌≡◌, true, MatchResult};
+ghost use Rattle.formulary_session.specs.Sources.{Gives, in_file};
+
 use lines::Line;
 use scripts::{AlgebraName, Codes, Command, LineFields, read_command, read_numbers};
 use sessions::{Session, Told, Trouble};
@@ -32,7 +35,9 @@ enum Failure {
 
 /// The codes that a command gives, out of the script or out of the file that it names.
 // The runtime goes to each function that reads or prints, as the library has it.
-fn codes_of(rt: &HostRuntime, codes: Codes) -> Result<Vec<u64>, Trouble> {
+fn codes_of(rt: &HostRuntime, codes: Codes) -> Result<Vec<u64>, Trouble>
+    ensures { MatchResult result (λ v. Gives codes v.items) (λ e. in_file codes ≡ true) }
+{
     match codes {
         Codes::Given(codes) => Ok(codes),
         Codes::File(path) => {

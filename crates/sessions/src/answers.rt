@@ -1,4 +1,7 @@
 // The answers of a session's calls, and their words.
+ghost use Rattle.std.specs.Prelude.{Some};
+ghost use Rattle.sessions.specs.Words.{word_of};
+
 use lines::Refusal;
 use shapes::ArrayType;
 use std::fmt;
@@ -50,17 +53,19 @@ pub(crate) struct EntryText<'a>(pub &'a Entry);
 struct RefusalText(Refusal);
 
 /// A call is printed as the word by which a script names it.
+// Written by hand, since clauses name the text.
 impl fmt::Display for Call {
+    ghost output = { λ c. Some (word_of c) };
+
     fn fmt<W: fmt::Write>(&self, f: &mut fmt::Formatter<W>) -> fmt::Result {
-        let word = match self {
-            Call::Open => "open",
-            Call::Line => "line",
-            Call::Enter => "enter",
-            Call::Scrap => "scrap",
-            Call::Withdraw => "withdraw",
-            Call::Entry => "entry",
-        };
-        write!(f, "{word}")
+        match self {
+            Call::Open => write!(f, "open"),
+            Call::Line => write!(f, "line"),
+            Call::Enter => write!(f, "enter"),
+            Call::Scrap => write!(f, "scrap"),
+            Call::Withdraw => write!(f, "withdraw"),
+            Call::Entry => write!(f, "entry"),
+        }
     }
 }
 

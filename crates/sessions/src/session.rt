@@ -1,5 +1,5 @@
 // A session: a collection of formulas on counts, the slips that are held, and what was done.
-ghost use Rattle.std.specs.Prelude.{◌<◌, IfOk, vec_len};
+ghost use Rattle.std.specs.Prelude.{◌≡◌, ◌<◌, IfOk, vec_len};
 
 use super::answers::{Answer, Call, EntryText, Told};
 use super::troubles::Trouble;
@@ -33,7 +33,9 @@ impl Session {
     }
 
     /// The answer of a call, which is counted.
-    fn counted(&mut self, call: Call, answer: Result<Answer, Refusal>) -> Told {
+    fn counted(&mut self, call: Call, answer: Result<Answer, Refusal>) -> Told
+        ensures { result ≡ record { call = call; answer = answer } }
+    {
         self.calls = self.calls.saturating_add(1);
         if answer.is_err() {
             self.refused = self.refused.saturating_add(1);
