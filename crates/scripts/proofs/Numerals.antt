@@ -14,14 +14,14 @@ own = numerals_by_fold _ (search rules) read_on (search rules)
 
 module _ {E : Type 0} (bs : List ℕ) (plain : get_or bs 0 0 ≡ 43 → ⊥) (r : Result ℕ E) (h : ParsesUnsigned 64 10 bs r) where
   -- What was parsed is the number said.
-  number_said_lem : (n : ℕ) → r ≡ Ok n → Some n ≡ number bs
+  pub number_said_lem : (n : ℕ) → r ≡ Ok n → Some n ≡ number bs
   number_said_lem n e =
       let p = OkIff-at_ok r _ _ n (parse_plain own 64 bs r h plain) e in
       let yes : is_number bs ≡ true = and_from (all_ascii_digits bs) _ p.0.0 (and_from (ltb 0 (length bs)) _ (lt-ltb 0 (length bs) p.0.1) (lt-ltb (read_on 0 bs) (2 ^ 64) p.0.2)) in
       ap Some p.1 ∙ sym (ap (λ v. cond v (Some (read_on 0 bs)) None) yes)
 
   -- Where nothing was parsed, no number is said.
-  number_unsaid : (d : E) → r ≡ Err d → None ≡ number bs
+  pub number_unsaid : (d : E) → r ≡ Err d → None ≡ number bs
   number_unsaid d k = sym (go (is_number bs) refl)
     where
       go : (v : Bool) → is_number bs ≡ v → cond v (Some (read_on 0 bs)) None ≡ None
@@ -40,7 +40,7 @@ module _ {E : Type 0} (bs : List ℕ) (plain : get_or bs 0 0 ≡ 43 → ⊥) (r 
       go (Err d) e = number_unsaid d e
 
 -- A text that ends with `]` is closed.
-closed_text : (t : List ℕ) → closed (t ++ (93 ∷ [])) ≡ Some t
+pub closed_text : (t : List ℕ) → closed (t ++ (93 ∷ [])) ≡ Some t
 closed_text [] = refl
 closed_text (b ∷ []) = refl
 closed_text (b ∷ c ∷ t) = ap (on_front b) (closed_text (c ∷ t))
@@ -60,7 +60,7 @@ closed_end (b ∷ c ∷ s) t e = go (closed (c ∷ s)) (closed_end (c ∷ s)) re
     go (Some u) ends v h = let same : b ∷ u ≡ t = cc in ap (λ l. b ∷ l) (ends u v) ∙ ap (λ l. l ++ (93 ∷ [])) same
 
 -- A text that does not end with `]` is not closed.
-closed_none : (s : List ℕ) → ((front : List ℕ) → s ≡ front ++ (93 ∷ []) → ⊥) → closed s ≡ None
+pub closed_none : (s : List ℕ) → ((front : List ℕ) → s ≡ front ++ (93 ∷ []) → ⊥) → closed s ≡ None
 closed_none s h = go (closed s) refl
   where
     go : (o : Option (List ℕ)) → closed s ≡ o → o ≡ None
@@ -68,12 +68,12 @@ closed_none s h = go (closed s) refl
     go (Some t) e = absurd (h t (closed_end s t e))
 
 -- A text that does not begin with this byte has nothing behind it.
-behind_none : (c : ℕ) (w : List ℕ) → ((rest : List ℕ) → w ≡ c ∷ rest → ⊥) → behind c w ≡ None
+pub behind_none : (c : ℕ) (w : List ℕ) → ((rest : List ℕ) → w ≡ c ∷ rest → ⊥) → behind c w ≡ None
 behind_none c [] h = refl
 behind_none c (b ∷ bs) h = ap (λ v. cond v (Some bs) None) (ne_eqb b c (λ e. h bs (ap (λ d. d ∷ bs) e)))
 
 -- What is behind a byte that a text begins with.
-behind_some : (c : ℕ) (w rest : List ℕ) → w ≡ c ∷ rest → behind c w ≡ Some rest
+pub behind_some : (c : ℕ) (w rest : List ℕ) → w ≡ c ∷ rest → behind c w ≡ Some rest
 behind_some c w rest e = ap (behind c) e ∙ ap (λ v. cond v (Some rest) None) (eq-eqb c c refl)
 
 -- What a `]` at the end is taken off from is closed there.

@@ -1,7 +1,7 @@
 -- Items that are read one after the other.
 use Rattle.std.proofs.Common.{◌≡◌, List, [], ◌∷◌, ◌++◌, Ok, Err, sym, refl, ap, ◌∙◌, append_assoc}
 use Rattle.scripts.specs.declared.errors.ReadError.{ReadError}
-use Rattle.scripts.specs.Readings.{Said, Blames, and_then, before}
+use Rattle.scripts.specs.Readings.{Fault, Said, Blames, and_then, before}
 use Rattle.scripts.proofs.Exits.{blames_like}
 
 -- Items that are read before others that are said.
@@ -18,6 +18,10 @@ module _ {X : Type 0} where
   -- The next item is said, and read after those before it.
   pub after_more : (xs : List X) (first : Said X) (x : X) (others : Said (List X)) → first ≡ Ok x → after xs (and_then first (λ y. before y others)) ≡ after (xs ++ (x ∷ [])) others
   after_more xs first x others e = ap (λ o. after xs (and_then o (λ y. before y others))) e ∙ after_push xs x others
+
+  -- A fault of the next item is one of all.
+  pub after_bad : (xs : List X) (first : Said X) (others : Said (List X)) (f : Fault) → first ≡ Err f → after xs (and_then first (λ y. before y others)) ≡ Err f
+  after_bad xs first others f e = ap (λ o. after xs (and_then o (λ y. before y others))) e
 
   -- Nothing is read before what is said.
   pub after_none : (o : Said (List X)) → o ≡ after [] o

@@ -101,10 +101,12 @@ fn value_in<'a>(heap: Global, text: &'a str, name: &str) -> Result<Option<&'a st
     ensures { Reads (sole name.now (values_of name.now (words_of text.now))) text_seen result }
 {
     let mut values = Words::new(text).filter_map(|word| value_of(word, name));
-    let value = values.next();
+    let Some(value) = values.next() else {
+        return Ok(None);
+    };
     match values.next() {
         Some(_) => Err(ReadError::Twice(String::from_str(heap, name)?)),
-        None => Ok(value),
+        None => Ok(Some(value)),
     }
 }
 
