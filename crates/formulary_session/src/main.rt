@@ -47,13 +47,15 @@ fn codes_of(rt: &HostRuntime, codes: Codes) -> Result<Vec<u64>, Trouble>
     }
 }
 
-/// A session that a script is played on, and whether a command was read: the algebra is named before all others.
-struct Player {
-    session: Session,
+/// The session that a script is played on, and whether a command was read: the algebra is named before all others.
+// The session is lent: it holds the tables of a collection, and is not copied for a script.
+#[derive(Drop)]
+struct Player<'a> {
+    session: &'a mut Session,
     begun: bool,
 }
 
-impl Player {
+impl Player<'_> {
     /// Adds the line that a command gives.
     fn add_line(&mut self, rt: &HostRuntime, fields: LineFields) -> Result<Told, Trouble> {
         let codes = codes_of(rt, fields.codes)?;
@@ -110,12 +112,12 @@ impl Player {
 
 /// One session: its answers, its summary, and what stopped it.
 fn run(rt: &HostRuntime, script: &str) -> Result<(), Failure> {
+    let mut session = Session::new(rt.alloc());
     let mut player = Player {
-        session: Session::new(rt.alloc()),
+        session: &mut session,
         begun: false,
     };
     let played = player.play(rt, script);
-    let Player { session, begun: _ } = player;
     let summary = &session;
     let printed = println!(rt; "{summary}");
     session.end();
@@ -133,14 +135,12 @@ fn run_file(rt: &HostRuntime, name: String) -> Result<(), Failure> {
 
 /// Runs the scripts that the arguments name up to the first that fails, each as a session of its own, or the one on standard input.
 fn run_all(rt: &HostRuntime) -> Result<(), Failure> {
-    let names: Vec<String> = env::args(rt)?
-        .skip(1)
-        .collect(rt.alloc())
-        .map_err(io::Error::from)?;
-    if names.is_empty() {
+    let mut names = env::args(rt)?.skip(1);
+    let Some(first) = names.next() else {
         let script = io::read_to_string(rt.alloc(), rt.stdin())?;
         return run(rt, script.as_str());
-    }
+    };
+    run_file(rt, first)?;
     for name in names {
         run_file(rt, name)?;
     }

@@ -1,5 +1,5 @@
 // A session: a collection of formulas on counts, the slips that are held, and what was done.
-ghost use Rattle.std.specs.Prelude.{◌≡◌, ◌<◌, IfOk, vec_len};
+ghost use Rattle.std.specs.Prelude.{◌≡◌, ◌<◌, [], ◌∷◌, ◌++◌, IfOk, MatchResult, vec_len};
 
 use super::answers::{Answer, Call, EntryText, Told};
 use super::troubles::Trouble;
@@ -7,7 +7,7 @@ use collection::{Collection, Slip};
 use counts::Counts;
 use lines::{Line, ParameterType, Refusal};
 use scripts::TypeWord;
-use std::alloc::Global;
+use std::alloc::{AllocError, AllocFailed, Global};
 use std::fmt;
 use typing::Entry;
 
@@ -63,7 +63,21 @@ impl Session {
         Ok(self.slips.remove(place))
     }
 
-    /// Opens a draft with parameters of these types, and holds its slip, for which there is room before.
+    /// Holds the slip of a draft and tells its serial; where there is no memory for it, the draft is scrapped.
+    fn hold(&mut self, slip: Slip) -> Result<u32, Trouble>
+        ensures { MatchResult result (λ serial. (serial ≡ slip.serial) × (self.new.slips.items ≡ self.old.slips.items ++ slip ∷ [])) (λ e. self.new.slips.items ≡ self.old.slips.items) }
+    {
+        let serial = slip.serial();
+        match self.slips.push(slip) {
+            Ok(()) => Ok(serial),
+            Err(AllocFailed { value: slip }) => {
+                let _ = self.collection.scrap(slip);
+                Err(Trouble::NoMemory(AllocError))
+            }
+        }
+    }
+
+    /// Opens a draft with parameters of these types, and holds its slip.
     pub fn open(&mut self, heap: Global, types: &[TypeWord]) -> Result<Told, Trouble> {
         let parameters: Vec<ParameterType> = types
             .iter()
@@ -72,13 +86,8 @@ impl Session {
                 shape: word.axes.as_slice(),
             })
             .collect(heap)?;
-        self.slips.reserve(1)?;
         let answer = match self.collection.open(parameters.as_slice()) {
-            Ok(slip) => {
-                let serial = slip.serial();
-                self.slips.push(slip).unwrap();
-                Ok(Answer::Slip(serial))
-            }
+            Ok(slip) => Ok(Answer::Slip(self.hold(slip)?)),
             Err(refusal) => Err(refusal),
         };
         Ok(self.counted(Call::Open, answer))
