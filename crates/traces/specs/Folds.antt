@@ -57,3 +57,7 @@ samples_count codes = length codes % 2 ^ 32
 -- The sum by the number of samples, or a division by zero where that number is 0.
 abbrev pub mean : List ℕ → Result ℕ Fault
 mean codes = quotient_of (total codes) (samples_count codes)
+
+-- The mean as a summary tells it: the sum by the number of samples, or cause 1 where that number is 0.
+abbrev pub told_mean : List ℕ → Result ℕ ℕ
+told_mean codes = cond (samples_count codes == 0) (Err 1) (Ok (quotient (total codes) (samples_count codes)))

@@ -1,8 +1,6 @@
 -- The texts that are printed: of a summary, and of an error.
-use Rattle.std.specs.Prelude.{ℕ, List, ◌++◌, Some, None, Ok, Err, string_bytes, codes, decimal, Option, Result}
+use Rattle.std.specs.Prelude.{ℕ, cond, List, ◌++◌, Some, None, Ok, Err, string_bytes, codes, decimal, Option, Result, ◌==◌}
 use Rattle.std.specs.Fmt.{signed_decimal as written}
-use Rattle.counts.specs.declared.Fault.{Fault}
-use Rattle.counts.specs.Faults.{fault_text}
 use Rattle.counts.specs.Tables.{signed}
 use Rattle.traces.specs.declared.folding.Summary.{Summary}
 use Rattle.traces.specs.declared.reading.TraceError.{TraceError}
@@ -17,10 +15,14 @@ abbrev pub extreme_text : Option ℕ → List ℕ
 extreme_text (Some code) = count_text code
 extreme_text None = codes "none"
 
+-- Why there is no quotient.
+abbrev pub cause_text : ℕ → List ℕ
+cause_text cause = cond (cause == 1) (codes "division by zero") (codes "cause " ++ decimal cause)
+
 -- A mean, or why there is none.
-abbrev pub mean_text : Result ℕ Fault → List ℕ
+abbrev pub mean_text : Result ℕ ℕ → List ℕ
 mean_text (Ok code) = count_text code
-mean_text (Err fault) = codes "none (" ++ (fault_text fault ++ codes ")")
+mean_text (Err cause) = codes "none (" ++ (cause_text cause ++ codes ")")
 
 -- A summary: one figure to a line.
 abbrev pub summary_text : Summary → List ℕ

@@ -11,5 +11,5 @@ summary_of codes = record {
   squares = folds.total_squares codes;
   smallest = folds.smallest codes;
   largest = folds.largest codes;
-  mean = folds.mean codes;
+  mean = folds.told_mean codes;
 }

@@ -133,8 +133,9 @@ pub struct Summary {
     pub squares: u32,
     pub smallest: Option<u32>,
     pub largest: Option<u32>,
-    /// The mean, or the fault for which there is none.
-    pub mean: Result<u32, Fault>,
+    /// The mean, or the cause for which there is none.
+    // By its number, since whoever makes a summary may name any cause, and each has its text.
+    pub mean: Result<u32, u8>,
 }
 
 impl Summary {
@@ -148,7 +149,7 @@ impl Summary {
             squares: total_squares(codes),
             smallest: smallest(codes),
             largest: largest(codes),
-            mean: mean(codes),
+            mean: mean(codes).map_err(Counts::cause_of),
         }
     }
 }

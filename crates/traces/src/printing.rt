@@ -1,10 +1,9 @@
 // Printing: a summary one figure to a line, and an error in one line. Each `Display` is written by hand, since a clause names its text.
 ghost use Rattle.std.specs.Prelude.{Some};
-ghost use Rattle.traces.specs.Prints.{count_text, extreme_text, mean_text, summary_text, error_text};
+ghost use Rattle.traces.specs.Prints.{count_text, extreme_text, cause_text, mean_text, summary_text, error_text};
 
 use crate::folding::Summary;
 use crate::reading::TraceError;
-use counts::Fault;
 use std::error::Error;
 use std::fmt;
 
@@ -37,18 +36,36 @@ impl fmt::Display for Extreme {
     }
 }
 
-/// The mean, or the fault for which there is none.
+/// Why there is no quotient.
+// A number, as in `Summary`.
 #[derive(Clone, Copy)]
-struct Mean(Result<u32, Fault>);
+struct Cause(u8);
 
-/// A mean is printed as its signed number, or with its fault.
+/// Cause 1 is printed in words, any other by its number.
+impl fmt::Display for Cause {
+    ghost output = { λ c. Some (cause_text c.0) };
+
+    fn fmt<W: fmt::Write>(&self, f: &mut fmt::Formatter<W>) -> fmt::Result {
+        if self.0 == 1 {
+            write!(f, "division by zero")
+        } else {
+            write!(f, "cause {}", self.0)
+        }
+    }
+}
+
+/// The mean, or the cause for which there is none.
+#[derive(Clone, Copy)]
+struct Mean(Result<u32, u8>);
+
+/// A mean is printed as its signed number, or with its cause.
 impl fmt::Display for Mean {
     ghost output = { λ m. Some (mean_text m.0) };
 
     fn fmt<W: fmt::Write>(&self, f: &mut fmt::Formatter<W>) -> fmt::Result {
         match self.0 {
             Ok(code) => write!(f, "{}", Count(code)),
-            Err(fault) => write!(f, "none ({fault})"),
+            Err(cause) => write!(f, "none ({})", Cause(cause)),
         }
     }
 }
