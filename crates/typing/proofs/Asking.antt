@@ -53,7 +53,7 @@ agree_front : (fs gs : List (List ℕ)) → agree (fs ++ gs) ≡ true → agree 
 agree_front [] gs e = refl
 agree_front (f ∷ fs) gs e = let u = and_parts (agree_with f (fs ++ gs)) (agree (fs ++ gs)) e in and_from _ _ (agree_with_front f fs gs u.0) (agree_front fs gs u.1)
 
-agree_not : (fs gs : List (List ℕ)) → agree fs ≡ false → agree (fs ++ gs) ≡ false
+pub agree_not : (fs gs : List (List ℕ)) → agree fs ≡ false → agree (fs ++ gs) ≡ false
 agree_not fs gs n = go (agree (fs ++ gs)) refl
   where
     go : (b : Bool) → agree (fs ++ gs) ≡ b → b ≡ false
