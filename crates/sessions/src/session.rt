@@ -65,7 +65,7 @@ impl Session {
 
     /// Holds the slip of a draft and tells its serial; where there is no memory for it, the draft is scrapped.
     fn hold(&mut self, slip: Slip) -> Result<u32, Trouble>
-        ensures { MatchResult result (λ serial. (serial ≡ slip.serial) × (self.new.slips.items ≡ self.old.slips.items ++ slip ∷ [])) (λ e. self.new.slips.items ≡ self.old.slips.items) }
+        ensures { MatchResult result (λ serial. (serial ≡ slip.serial) × (self.new.slips.items ≡ self.old.slips.items ++ slip ∷ []) × (self.new.collection ≡ self.old.collection)) (λ e. self.new.slips.items ≡ self.old.slips.items) }
     {
         let serial = slip.serial();
         match self.slips.push(slip) {
