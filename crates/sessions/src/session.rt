@@ -1,5 +1,11 @@
 // A session: a collection of formulas on counts, the slips that are held, and what was done.
-ghost use Rattle.std.specs.Prelude.{◌≡◌, ◌<◌, [], ◌∷◌, ◌++◌, IfOk, MatchResult, vec_len};
+ghost use Rattle.std.specs.Prelude.{◌≡◌, ◌<◌, List, [], ◌∷◌, ◌++◌, IfOk, vec_len};
+ghost use Rattle.std.specs.Result.{IfErr};
+ghost use Rattle.remora.specs.Algebras.{Sample};
+ghost use Rattle.remora.specs.Calls.{scrap as scrap_call, serve};
+ghost use Rattle.counts.specs.Tables.{counts as table};
+ghost use Rattle.collection.specs.States.{state_of};
+ghost use Rattle.sessions.specs.declared.troubles.Trouble.TheVariants.{NoMemory};
 
 use super::answers::{Answer, Call, EntryText, Told};
 use super::troubles::Trouble;
@@ -63,9 +69,11 @@ impl Session {
         Ok(self.slips.remove(place))
     }
 
-    /// Holds the slip of a draft and tells its serial; where there is no memory for it, the draft is scrapped.
+    /// Holds the slip of a draft, as the newest, and tells its serial; where there is no memory for it, the draft is scrapped.
     fn hold(&mut self, slip: Slip) -> Result<u32, Trouble>
-        ensures { MatchResult result (λ serial. (serial ≡ slip.serial) × (self.new.slips.items ≡ self.old.slips.items ++ slip ∷ []) × (self.new.collection ≡ self.old.collection)) (λ e. self.new.slips.items ≡ self.old.slips.items) }
+        ensures held { IfOk result (λ serial. (serial ≡ slip.serial) × (self.new.slips.items ≡ self.old.slips.items ++ slip ∷ []) × (self.new.collection ≡ self.old.collection)) }
+        ensures scrapped { IfErr result (λ e. (e ≡ NoMemory (record {})) × (self.new.slips.items ≡ self.old.slips.items) × ((S : List Sample) → (serve table (state_of self.old.collection) S (scrap_call slip.serial)).state ≡ state_of self.new.collection)) }
+        ensures uncounted { (self.new.calls ≡ self.old.calls) × (self.new.refused ≡ self.old.refused) × (self.new.formulas ≡ self.old.formulas) }
     {
         let serial = slip.serial();
         match self.slips.push(slip) {
